@@ -1,0 +1,4 @@
+pub mod Flags
+pub mod Words
+pub mod Head
+pub mod Bits
