@@ -8,7 +8,8 @@ use lib.Dec.{eqb, ltb, leb}
 use lib.Bits.{bitOr, bitAnd, or-add-and, and-le-l, and-le-r, or-lt, or-zero-l, and-block, and-self}
 use borrow.Author.Tests.{ltb-true, ltb-false, leb-true, leb-false, eqb-true, eqb-false, lt-ltb, le-ltb, le-leb, lt-leb, eq-eqb, ne-eqb}
 use Rattle.facts.specs.Words.{earlier, start-by}
-use Rattle.facts.specs.Flags.{both, same, and-l, and-r, and-in}
+use Rattle.laws.specs.Numbers.{both, and-left, and-right, and-both}
+use Rattle.facts.specs.Flags.{same}
 
 pub or-ge-l : (a b : ℕ) → a ≤ bitOr a b
 or-ge-l a b = omega (arith, or-add-and a b, and-le-r a b)
@@ -21,8 +22,8 @@ pub or-zero : (a b : ℕ) → eqb (bitOr a b) 0 ≡ (eqb a 0 && eqb b 0)
 or-zero a b =
     same (eqb (bitOr a b) 0) (eqb a 0 && eqb b 0)
     (λ h. let z = eqb-true (bitOr a b) 0 h in
-    and-in (eqb a 0) (eqb b 0) (eq-eqb a 0 (omega (arith, or-ge-l a b, z))) (eq-eqb b 0 (omega (arith, or-ge-r a b, z))))
-    (λ h. let x = eqb-true a 0 (and-l (eqb a 0) (eqb b 0) h) in let y = eqb-true b 0 (and-r (eqb a 0) (eqb b 0) h) in
+    and-both (eqb a 0) (eqb b 0) (eq-eqb a 0 (omega (arith, or-ge-l a b, z))) (eq-eqb b 0 (omega (arith, or-ge-r a b, z))))
+    (λ h. let x = eqb-true a 0 (and-left (eqb a 0) (eqb b 0) h) in let y = eqb-true b 0 (and-right (eqb a 0) (eqb b 0) h) in
     eq-eqb (bitOr a b) 0 (omega (arith, or-add-and a b, x, y)))
 
 -- an OR has no top bit when both have none
@@ -30,9 +31,9 @@ pub or-top : (a b : ℕ) → ltb (bitOr a b) (2 ^ 63) ≡ (ltb a (2 ^ 63) && ltb
 or-top a b =
     same (ltb (bitOr a b) (2 ^ 63)) (ltb a (2 ^ 63) && ltb b (2 ^ 63))
     (λ h. let z = ltb-true (bitOr a b) (2 ^ 63) h in
-    and-in (ltb a (2 ^ 63)) (ltb b (2 ^ 63)) (lt-ltb a (2 ^ 63) (omega (arith, or-ge-l a b, z))) (lt-ltb b (2 ^ 63) (omega (arith, or-ge-r a b, z))))
+    and-both (ltb a (2 ^ 63)) (ltb b (2 ^ 63)) (lt-ltb a (2 ^ 63) (omega (arith, or-ge-l a b, z))) (lt-ltb b (2 ^ 63) (omega (arith, or-ge-r a b, z))))
     (λ h. lt-ltb (bitOr a b) (2 ^ 63)
-    (or-lt 63 a b (ltb-true a (2 ^ 63) (and-l (ltb a (2 ^ 63)) (ltb b (2 ^ 63)) h)) (ltb-true b (2 ^ 63) (and-r (ltb a (2 ^ 63)) (ltb b (2 ^ 63)) h))))
+    (or-lt 63 a b (ltb-true a (2 ^ 63) (and-left (ltb a (2 ^ 63)) (ltb b (2 ^ 63)) h)) (ltb-true b (2 ^ 63) (and-right (ltb a (2 ^ 63)) (ltb b (2 ^ 63)) h))))
 
 pub or-top5 : (a b c d e : ℕ) → ltb (bitOr (bitOr (bitOr (bitOr a b) c) d) e) (2 ^ 63)
     ≡ (ltb a (2 ^ 63) && ltb b (2 ^ 63) && ltb c (2 ^ 63) && ltb d (2 ^ 63) && ltb e (2 ^ 63))
@@ -66,8 +67,8 @@ over-law max x r hm hx hr e =
     or-top x r
     ∙ same (ltb x (2 ^ 63) && ltb r (2 ^ 63)) (leb x max)
     (λ h. le-leb x max
-    (omega (arith, ltb-true x (2 ^ 63) (and-l (ltb x (2 ^ 63)) (ltb r (2 ^ 63)) h), ltb-true r (2 ^ 63) (and-r (ltb x (2 ^ 63)) (ltb r (2 ^ 63)) h))))
-    (λ h. and-in (ltb x (2 ^ 63)) (ltb r (2 ^ 63)) (lt-ltb x (2 ^ 63) (omega (arith, leb-true x max h))) (lt-ltb r (2 ^ 63) (omega (arith, leb-true x max h))))
+    (omega (arith, ltb-true x (2 ^ 63) (and-left (ltb x (2 ^ 63)) (ltb r (2 ^ 63)) h), ltb-true r (2 ^ 63) (and-right (ltb x (2 ^ 63)) (ltb r (2 ^ 63)) h))))
+    (λ h. and-both (ltb x (2 ^ 63)) (ltb r (2 ^ 63)) (lt-ltb x (2 ^ 63) (omega (arith, leb-true x max h))) (lt-ltb r (2 ^ 63) (omega (arith, leb-true x max h))))
 
 -- x is a - g, y is 0 - a, z is g - 1, each wrapped
 pub start-law : (latest g a o x y z : ℕ) → latest < 2 ^ 63 → g < 2 ^ 63 → x < 2 ^ 64 → y < 2 ^ 64 → z < 2 ^ 64
@@ -86,8 +87,8 @@ start-law latest g a o x y z hl hg hx hy hz eo ex ey ez =
             let pos : 0 < g = omega (arith, g1) in
             rw (p, q, lt-ltb z (2 ^ 63) (omega arith), or-true)
             (same (ltb x (2 ^ 63) && true) (leb g a)
-            (λ h. le-leb g a (omega (arith, ltb-true x (2 ^ 63) (and-l (ltb x (2 ^ 63)) true h))))
-            (λ h. and-in (ltb x (2 ^ 63)) true (lt-ltb x (2 ^ 63) (omega (arith, leb-true g a h))) refl))
+            (λ h. le-leb g a (omega (arith, ltb-true x (2 ^ 63) (and-left (ltb x (2 ^ 63)) true h))))
+            (λ h. and-both (ltb x (2 ^ 63)) true (lt-ltb x (2 ^ 63) (omega (arith, leb-true g a h))) refl))
       ]
     ])
 

@@ -1,6 +1,6 @@
 -- Flags: rows of tests, tests of each number below n, tests of each element of a list, and what a flag says. Assumes nothing.
 use mathlib.Core.Path.{_≡_, refl, sym, ap, _∙_}
-use mathlib.Core.Logic.{_⊎_, inl, inr, ⊎-elim}
+use mathlib.Core.Logic.{⊎-elim}
 use mathlib.Core.Bool.{Bool, true, false, _&&_, and-false, and-true, and-assoc}
 use mathlib.Core.List.{List, [], _∷_, _++_}
 use Prim.Native.Nat.{ℕ, zero, suc, _+_, _≤_, _<_}
@@ -11,28 +11,13 @@ use lib.ListN.{length, getD, take}
 use lib.Dec.{eqb, ltb, leb}
 use borrow.Author.Tests.{eqb-true, leb-true, ltb-true, eq-eqb, le-leb, lt-ltb}
 use Rattle.model.specs.Lists.{all, every}
-
-pub both : (b : Bool) → (b ≡ true) ⊎ (b ≡ false)
-both true = inl refl
-both false = inr refl
+use Rattle.laws.specs.Numbers.{and-left, and-right, and-both}
 
 -- two flags are equal where each is true when the other is
 pub same : (a b : Bool) → (a ≡ true → b ≡ true) → (b ≡ true → a ≡ true) → a ≡ b
 same true b f g = sym (f refl)
 same false true f g = g refl
 same false false f g = refl
-
-pub and-l : (a b : Bool) → (a && b) ≡ true → a ≡ true
-and-l true b h = refl
-and-l false b h = h
-
-pub and-r : (a b : Bool) → (a && b) ≡ true → b ≡ true
-and-r true b h = h
-and-r false true h = refl
-and-r false false h = h
-
-pub and-in : (a b : Bool) → a ≡ true → b ≡ true → (a && b) ≡ true
-and-in a b p q = rw (p, q)
 
 -- ---- a row of tests, as code writes it: a & b & c
 
@@ -58,8 +43,8 @@ fold-every (b ∷ bs) = row-every b bs
 pub hold : (bs : List Bool) → every bs ≡ true → (i : ℕ) → getD bs i true ≡ true
 unfolding every
 hold [] e i = refl
-hold (b ∷ bs) e zero = and-l b (every bs) e
-hold (b ∷ bs) e (suc i) = hold bs (and-r b (every bs) e) i
+hold (b ∷ bs) e zero = and-left b (every bs) e
+hold (b ∷ bs) e (suc i) = hold bs (and-right b (every bs) e) i
 
 pub hold-row : (bs : List Bool) → fold bs ≡ true → (i : ℕ) → getD bs i true ≡ true
 hold-row bs e = hold bs (sym (fold-every bs) ∙ e)
@@ -93,13 +78,13 @@ module _ (p : ℕ → Bool) where
   unfolding all-below
   all-at zero i h e = absurd (not-suc-le-zero h)
   all-at (suc n) i h e =
-      ⊎-elim (λ q. rw q (and-r (all-below n p) (p n) e)) (λ l. all-at n i l (and-l (all-below n p) (p n) e)) (eq-or-lt-of-le (le-of-suc-le-suc h))
+      ⊎-elim (λ q. rw q (and-right (all-below n p) (p n) e)) (λ l. all-at n i l (and-left (all-below n p) (p n) e)) (eq-or-lt-of-le (le-of-suc-le-suc h))
 
   -- and back
   pub all-each : (n : ℕ) → ((k : ℕ) → k < n → p k ≡ true) → all-below n p ≡ true
   unfolding all-below
   all-each zero f = refl
-  all-each (suc n) f = and-in (all-below n p) (p n) (all-each n (λ k l. f k (omega arith))) (f n (omega arith))
+  all-each (suc n) f = and-both (all-below n p) (p n) (all-each n (λ k l. f k (omega arith))) (f n (omega arith))
 
 -- tests that agree below n
 pub all-cong : (p q : ℕ → Bool) (n : ℕ) → ((k : ℕ) → k < n → p k ≡ q k) → all-below n p ≡ all-below n q
@@ -141,8 +126,8 @@ says-eq a b = record { gives = eqb-true a b; from = eq-eqb a b }
 
 pub says-and : (a b : Bool) {P Q : Type 0} → Says a P → Says b Q → Says (a && b) (P × Q)
 says-and a b x y = record {
-  gives = λ h. (x .gives (and-l a b h), y .gives (and-r a b h));
-  from = λ p. and-in a b (x .from (p .0)) (y .from (p .1));
+  gives = λ h. (x .gives (and-left a b h), y .gives (and-right a b h));
+  from = λ p. and-both a b (x .from (p .0)) (y .from (p .1));
 }
 
 pub says-iff : {b : Bool} {P Q : Type 0} → Says b P → (P → Q) → (Q → P) → Says b Q

@@ -14,7 +14,8 @@ use Rattle.model.specs.Lists.{all, every}
 use Rattle.model.specs.Layout.{Table, is-0, word, words-at, decode, settings-of, counts-ok, settings-ok, small-ok, stall-ok, stuck-ok, cold-ok, cold-by, hedged-ok, observation-ok, observation-by}
 use Rattle.model.specs.Layout as layout
 use Rattle.facts.specs.Flags.{fold, fold-every, hold, hold-row, all-snoc}
-use Rattle.facts.specs.Words.{zeros, at, clock, latest, probe-fits}
+use Rattle.facts.specs.Words.{zeros, at, clock, latest, probe-fits, later-fits, head-fits}
+use Rattle.laws.specs.Numbers.{and-left}
 
 pub refuted : (b : Bool) → (b ≡ true → ⊥) → false ≡ b
 refuted true f = absurd (f refl)
@@ -213,3 +214,11 @@ module _ (ws : List ℕ) where
   pub counts-clock : counts-ok t ≡ true → clock ws ≤ max-clock
   unfolding counts-ok
   counts-clock e = omega (arith, word-at ws 2, leb-true (word 2 t) max-clock (hold _ e 2))
+
+  pub head-count : head-fits ws ≡ true → at ws 1 ≤ 256
+  unfolding head-fits
+  head-count e = counts-count (and-left (counts-ok t) (later-fits ws) e)
+
+  pub head-clock : head-fits ws ≡ true → clock ws ≤ max-clock
+  unfolding head-fits
+  head-clock e = counts-clock (and-left (counts-ok t) (later-fits ws) e)
