@@ -5,7 +5,9 @@ ghost use mathlib.Core.Bool.{_&&_};
 ghost use Prim.Native.Nat.{ℕ, _+_, _≤_, _<_, _^_};
 ghost use lib.ListN.{length, getD};
 ghost use lib.Dec.{eqb, ltb, leb};
-ghost use Rattle.facts.specs.Words.{count, clock, at, tails-zero, unused-zero, fields-fit, rises, records-fit, total-fits, earlier, oldest-of, start-by, most-raced, seat-by, seats-fit, fits};
+ghost use Rattle.model.specs.Layout.{is-window};
+ghost use Rattle.model.specs.Refusals.{is-long};
+ghost use Rattle.facts.specs.Words.{count, clock, at, tails-zero, unused-zero, fields-fit, rises, records-fit, total-fits, earlier, oldest-of, start-by, most-raced, seat-by, seats-fit};
 
 fn to_usize(x: u64) -> usize
     ensures { λ r. ⌜ r ≡ x ⌝ }
@@ -186,8 +188,9 @@ fn records(w: &[u64]) -> bool
 
 // ---- all of it
 
+// Whether the words count as a window, however many they are.
 pub fn is_window(words: &[u64]) -> bool
-    ensures { λ r. ⌜ r ≡ fits (now (words .entry)) ⌝ }
+    ensures { λ r. ⌜ r ≡ (is-long (now (words .entry)) && is-window (now (words .entry))) ⌝ }
 {
     if words.len() != 4096 {
         return false;

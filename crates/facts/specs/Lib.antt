@@ -1,5 +1,10 @@
 pub mod Flags
 pub mod Words
-pub mod Head
 pub mod Bits
+pub mod Head
 pub mod Oldest
+pub mod Lists
+pub mod Sound
+pub mod Entries
+pub mod Seats
+pub mod Whole

@@ -146,15 +146,21 @@ probe-fits t =
     ∷ all is-0 (drop (4 * word 63 t) (words-at 65 32 t)) ∷ []))
 
 -- all but the first eight words
+unfoldable pub later : List ℕ → List Bool
+later ws =
+    settings-ok (settings-of (decode ws)) ∷ small-ok (decode ws) ∷ stall-ok (decode ws) ∷ stuck-ok (decode ws) ∷ cold-ok (decode ws)
+    ∷ hedged-ok (decode ws) ∷ observation-ok (decode ws) ∷ probe-fits (decode ws) ∷ zeros ws 3681 415 ∷ []
+
 unfoldable pub later-fits : List ℕ → Bool
-later-fits ws =
-    fold (settings-ok (settings-of (decode ws)) ∷ small-ok (decode ws) ∷ stall-ok (decode ws) ∷ stuck-ok (decode ws) ∷ cold-ok (decode ws)
-    ∷ hedged-ok (decode ws) ∷ observation-ok (decode ws) ∷ probe-fits (decode ws) ∷ zeros ws 3681 415 ∷ [])
+later-fits ws = fold (later ws)
 
 unfoldable pub head-fits : List ℕ → Bool
 head-fits ws = counts-ok (decode ws) && later-fits ws
 
 -- ---- all of it
 
+unfoldable pub conditions : List ℕ → List Bool
+conditions ws = eqb (length ws) 4096 ∷ head-fits ws ∷ unused-zero ws ∷ records-fit ws ∷ total-fits ws ∷ seats-fit ws ∷ []
+
 unfoldable pub fits : List ℕ → Bool
-fits ws = eqb (length ws) 4096 && head-fits ws && unused-zero ws && records-fit ws && total-fits ws && seats-fit ws
+fits ws = fold (conditions ws)

@@ -1,6 +1,6 @@
 -- `check_head::parts` meets its contract: each part is its condition. Assumes nothing.
 use mathlib.Core.Bool.{_&&_}
-use Rattle.facts.specs.Words.{later-fits}
+use Rattle.facts.specs.Words.{later, later-fits}
 use Rattle.facts.specs.Flags.{fold}
 use borrow.Author.Needs.{needs}
 use Rattle.check_head.proofs.parts.Statement.{statement}
@@ -43,7 +43,7 @@ any-bits-requires : tie.Need-any-bits-requires
 any-bits-requires c κs = search needs
 
 returns : tie.Need-returns
-unfolding later-fits fold
+unfolding later-fits later fold
 returns c =
     λ i. c .before .before .before .before .before .before .before .before .settings .ensures i
     && c .before .before .before .before .before .before .before .small .ensures i && c .before .before .before .before .before .before .stall .ensures i
