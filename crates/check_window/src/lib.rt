@@ -7,7 +7,7 @@ ghost use lib.ListN.{length, getD};
 ghost use lib.Dec.{eqb, ltb, leb};
 ghost use Rattle.model.specs.Layout.{is-window};
 ghost use Rattle.model.specs.Refusals.{is-long};
-ghost use Rattle.facts.specs.Words.{count, clock, at, tails-zero, unused-zero, fields-fit, rises, records-fit, total-fits, earlier, oldest-of, start-by, most-raced, seat-by, seats-fit};
+ghost use Rattle.facts.specs.Words.{count, clock, blank-at, tails-zero, unused-zero, fields-fit, rises, records-fit, total-fits, earlier, oldest-of, start-by, most-raced, seat-by, seats-fit};
 
 fn to_usize(x: u64) -> usize
     ensures { λ r. ⌜ r ≡ x ⌝ }
@@ -17,7 +17,22 @@ fn to_usize(x: u64) -> usize
 
 // ---- what must be 0
 
-// OR of the places after the records, in each of the eight columns.
+// OR of the eight words of place i.
+fn place(w: &[u64], i: usize) -> u64
+    requires { ⌜ (length (now w) ≡ 4096) × (i < 256) ⌝ }
+    ensures { λ r. ⌜ eqb r 0 ≡ blank-at (now (w .entry)) i ⌝ }
+{
+    w[i]
+        | w[256 + i]
+        | w[512 + i]
+        | w[768 + i]
+        | w[1024 + i]
+        | w[1280 + i]
+        | w[1536 + i]
+        | w[1792 + i]
+}
+
+// OR of the places after the records.
 fn tails(w: &[u64]) -> u64
     requires { ⌜ (length (now w) ≡ 4096) × (count (now w) ≤ 256) ⌝ }
     ensures { λ r. ⌜ eqb r 0 ≡ tails-zero (now (w .entry)) ⌝ }
@@ -25,8 +40,8 @@ fn tails(w: &[u64]) -> u64
     let n = to_usize(w[3585]);
     let m = 256 - n;
     let mut acc: u64 = 0;
-    for c in 0..8 {
-        acc = acc | check_head::any_bits(w, 256 * c + n, m);
+    for k in 0..m {
+        acc = acc | place(w, n + k);
     }
     acc
 }

@@ -26,6 +26,21 @@ or-zero a b =
     (λ h. let x = eqb-true a 0 (and-left (eqb a 0) (eqb b 0) h) in let y = eqb-true b 0 (and-right (eqb a 0) (eqb b 0) h) in
     eq-eqb (bitOr a b) 0 (omega (arith, or-add-and a b, x, y)))
 
+-- eight of them
+pub or-zero8 : (a b c d e f g h : ℕ) → eqb (bitOr (bitOr (bitOr (bitOr (bitOr (bitOr (bitOr a b) c) d) e) f) g) h) 0
+    ≡ (eqb a 0 && eqb b 0 && eqb c 0 && eqb d 0 && eqb e 0 && eqb f 0 && eqb g 0 && eqb h 0)
+or-zero8 a b c d e f g h =
+    let x3 = bitOr (bitOr a b) c in
+    let x4 = bitOr x3 d in
+    let x5 = bitOr x4 e in
+    let x6 = bitOr x5 f in
+    let x7 = bitOr x6 g in
+    let o3 : eqb x3 0 ≡ (eqb a 0 && eqb b 0 && eqb c 0) = or-zero (bitOr a b) c ∙ ap (λ (q : Bool). q && eqb c 0) (or-zero a b) in
+    let o4 : eqb x4 0 ≡ (eqb a 0 && eqb b 0 && eqb c 0 && eqb d 0) = or-zero x3 d ∙ ap (λ (q : Bool). q && eqb d 0) o3 in
+    let o5 : eqb x5 0 ≡ (eqb a 0 && eqb b 0 && eqb c 0 && eqb d 0 && eqb e 0) = or-zero x4 e ∙ ap (λ (q : Bool). q && eqb e 0) o4 in
+    let o6 : eqb x6 0 ≡ (eqb a 0 && eqb b 0 && eqb c 0 && eqb d 0 && eqb e 0 && eqb f 0) = or-zero x5 f ∙ ap (λ (q : Bool). q && eqb f 0) o5 in
+    or-zero x7 h ∙ ap (λ (q : Bool). q && eqb h 0) (or-zero x6 g ∙ ap (λ (q : Bool). q && eqb g 0) o6)
+
 -- an OR has no top bit when both have none
 pub or-top : (a b : ℕ) → ltb (bitOr a b) (2 ^ 63) ≡ (ltb a (2 ^ 63) && ltb b (2 ^ 63))
 or-top a b =

@@ -16,7 +16,7 @@ use Rattle.model.specs.declared.Entry.{Entry}
 use Rattle.laws.specs.Numbers.{and-left, and-right, and-both}
 use Rattle.laws.specs.Rows.{length-rows, rows-at}
 use Rattle.facts.specs.Flags.{Says, says-iff, says-all, says-eq, says-is, fold, fold-every, all-below}
-use Rattle.facts.specs.Words.{zeros, entry}
+use Rattle.facts.specs.Words.{zeros, entry, blanks, blank-at}
 use Rattle.facts.specs.Oldest.{getD-replicate}
 
 -- ---- each element, by its place
@@ -106,7 +106,12 @@ module _ (ws : List ℕ) where
 
 -- ---- blank places: 0 in each column
 
-field-entry : (ws : List ℕ) (i c : ℕ) → c < 8 → field c (entry ws i) ≡ getD ws (256 * c + i) 0
+pub blank-is : (ws : List ℕ) (i : ℕ) → blank-at ws i ≡ is-blank (entry ws i)
+unfolding blank-at blanks is-blank entry
+blank-is ws i = fold-every (blanks ws i)
+
+-- the word of place i in the column c
+pub field-entry : (ws : List ℕ) (i c : ℕ) → c < 8 → field c (entry ws i) ≡ getD ws (256 * c + i) 0
 unfolding entry
 field-entry ws i zero h = let e : i ≡ 256 * 0 + i = omega arith in ap (λ (n : ℕ). getD ws n 0) e
 field-entry ws i (suc zero) h = refl

@@ -18,10 +18,10 @@ use Rattle.model.specs.Layout.{Table, is-0, is-blank, rows, decode, word, words
 use Rattle.model.specs.Layout as layout
 use Rattle.model.specs.Refusals.{is-long}
 use Rattle.laws.specs.Numbers.{both, and-left, and-right, and-both}
-use Rattle.facts.specs.Flags.{Says, says-iff, says-is, says-same, says-eq, fold, fold-every, hold, hold-row, all-below, all-at, all-each}
-use Rattle.facts.specs.Words.{at, count, clock, latest, total, start, body, seat-key, cooling, racer, entry, zeros, tails-zero, unused-zero, fields-fit, rises, record-fits, records-fit, sum-of, total-fits, oldest-of, start-by, most-raced, seat-by, seat-fits, seats-fit, probe-fits, later, later-fits, head-fits, conditions, fits}
+use Rattle.facts.specs.Flags.{same, Says, says-iff, says-is, says-same, says-eq, fold, fold-every, hold, hold-row, all-below, all-at, all-each}
+use Rattle.facts.specs.Words.{at, count, clock, latest, total, start, body, seat-key, cooling, racer, entry, zeros, blank-at, tails-zero, unused-zero, fields-fit, rises, record-fits, records-fit, sum-of, total-fits, oldest-of, start-by, most-raced, seat-by, seat-fits, seats-fit, probe-fits, later, later-fits, head-fits, conditions, fits}
 use Rattle.facts.specs.Head.{word-at, part, counts-count}
-use Rattle.facts.specs.Lists.{Zeros, says-part, says-zeros, says-first, says-rest, says-blank}
+use Rattle.facts.specs.Lists.{says-part, says-first, says-rest, blank-is}
 use Rattle.facts.specs.Sound.{Sound, valid-says, more, none}
 use Rattle.facts.specs.Entries.{fields-are, rises-are, sum-is, oldest-is}
 use Rattle.facts.specs.Seats.{start-is, says-starts, raced-le, raced-none, raced-in}
@@ -87,22 +87,15 @@ module _ (ws : List ℕ) (long : length ws ≡ 4096) where
   -- conditions that hold where there are at most 256 records
   module _ (few : count ws ≤ 256) where
     -- the places after the records
-    says-tails : Says (tails-zero ws) ((c : ℕ) → c < 8 → Zeros ws (256 * c + count ws) (256 - count ws))
-    unfolding tails-zero
-    says-tails =
-        let z : (c : ℕ) → c < 8 → Says (zeros ws (256 * c + count ws) (256 - count ws)) (Zeros ws (256 * c + count ws) (256 - count ws)) =
-        λ c l. says-zeros ws (256 * c + count ws) (256 - count ws) (omega arith) in
-        let p : ℕ → Bool = λ c. zeros ws (256 * c + count ws) (256 - count ws) in
-        record { gives = λ h c l. z c l .gives (all-at p 8 c l h); from = λ f. all-each p 8 (λ c l. z c l .from (f c l)) }
-
-    pub says-clear : Says (all is-blank (drop (word 1 t) (t .entries))) ((c : ℕ) → c < 8 → Zeros ws (256 * c + count ws) (256 - count ws))
-    unfolding decode
-    says-clear =
-        let place : (c k : ℕ) → 256 * c + (count ws + k) ≡ 256 * c + count ws + k = λ c k. omega arith in
-        says-is (ap (λ (n : ℕ). all is-blank (drop n (rows 256 ws))) (word-at ws 1))
-        (says-iff (says-rest ws is-blank (count ws) few)
-        (λ f c l k b. ap (λ (n : ℕ). getD ws n 0) (sym (place c k)) ∙ says-blank ws (count ws + k) .gives (f k b) c l)
-        (λ f k b. says-blank ws (count ws + k) .from (λ c l. ap (λ (n : ℕ). getD ws n 0) (place c k) ∙ f c l k b)))
+    tails-is : tails-zero ws ≡ all is-blank (drop (word 1 t) (t .entries))
+    unfolding tails-zero decode
+    tails-is =
+        let p : ℕ → Bool = λ k. blank-at ws (count ws + k) in
+        let s = says-rest ws is-blank (count ws) few in
+        same (all-below (256 - count ws) p) (all is-blank (drop (count ws) (rows 256 ws)))
+        (λ h. s .from (λ k b. sym (blank-is ws (count ws + k)) ∙ all-at p (256 - count ws) k b h))
+        (λ h. all-each p (256 - count ws) (λ k b. blank-is ws (count ws + k) ∙ s .gives h k b))
+        ∙ ap (λ (n : ℕ). all is-blank (drop n (rows 256 ws))) (sym (word-at ws 1))
 
     says-each : Says (all (entry-ok (word 2 t)) (live t)) ((i : ℕ) → i < count ws → fields-fit ws i ≡ true)
     says-each =
@@ -174,7 +167,7 @@ module _ (ws : List ℕ) (long : length ws ≡ 4096) where
         probe = probe-racers .from (l 7, λ z. says-none 3328 (omega arith) .from (λ s b. raced-none (at ws 61) (racer ws s) z (seat s b .races)));
         rest = sym (part ws 97 415) ∙ l 8;
         spare = and-right (tails-zero ws) (zeros ws 2048 256) (h 2);
-        clear = says-clear few .from (says-tails few .gives (and-left (tails-zero ws) (zeros ws 2048 256) (h 2)));
+        clear = sym (tails-is few) ∙ and-left (tails-zero ws) (zeros ws 2048 256) (h 2);
         each = says-each few .from (λ i b. and-left (fields-fit ws i) (rises ws i) (rec i b));
         rises = says-rises few .from (λ i b. and-right (fields-fit ws i) (rises ws i) (rec i b));
         sums = sym (sums-is few) ∙ h 4;
@@ -205,7 +198,7 @@ module _ (ws : List ℕ) (long : length ws ≡ 4096) where
       fold-every (conditions ws)
       ∙ more _ (eq-eqb (length ws) 4096 long)
       (more _ (and-both (counts-ok t) (later-fits ws) (S .counts) rest)
-      (more _ (and-both (tails-zero ws) (zeros ws 2048 256) (says-tails few .from (says-clear few .gives (S .clear))) (S .spare))
+      (more _ (and-both (tails-zero ws) (zeros ws 2048 256) (tails-is few ∙ S .clear) (S .spare))
       (more _ (all-each (record-fits ws) (count ws) (λ i b. and-both (fields-fit ws i) (rises ws i) (each i b) (up i b)))
       (more _ (sums-is few ∙ S .sums)
       (more _ (all-each (seat-fits ws) 256 seat) none)))))

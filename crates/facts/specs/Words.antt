@@ -130,9 +130,18 @@ seats-fit ws = all-below 256 (seat-fits ws)
 
 -- ---- what is not used is 0
 
--- in each of the eight columns, the places after the records
+-- the place i is 0 in each of the eight columns
+unfoldable pub blanks : List ℕ → ℕ → List Bool
+blanks ws i =
+    eqb (getD ws i 0) 0 ∷ eqb (getD ws (256 + i) 0) 0 ∷ eqb (getD ws (512 + i) 0) 0 ∷ eqb (getD ws (768 + i) 0) 0
+    ∷ eqb (owner ws i) 0 ∷ eqb (time ws i) 0 ∷ eqb (height ws i) 0 ∷ eqb (estimate ws i) 0 ∷ []
+
+unfoldable pub blank-at : List ℕ → ℕ → Bool
+blank-at ws i = fold (blanks ws i)
+
+-- the places after the records
 unfoldable pub tails-zero : List ℕ → Bool
-tails-zero ws = all-below 8 (λ c. zeros ws (256 * c + count ws) (256 - count ws))
+tails-zero ws = all-below (256 - count ws) (λ k. blank-at ws (count ws + k))
 
 unfoldable pub unused-zero : List ℕ → Bool
 unused-zero ws = tails-zero ws && zeros ws 2048 256
