@@ -8,3 +8,5 @@ pub mod Sound
 pub mod Entries
 pub mod Seats
 pub mod Whole
+pub mod Facts
+pub mod Frame
