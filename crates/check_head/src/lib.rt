@@ -4,10 +4,10 @@ ghost use mathlib.Core.Path.{_≡_};
 ghost use Prim.Native.Nat.{_+_, _≤_};
 ghost use lib.ListN.{length};
 ghost use lib.Dec.{eqb};
-ghost use Rattle.model.specs.Layout.{decode, counts-ok, settings-ok, settings-of, small-ok, stall-ok, stuck-ok, cold-ok, hedged-ok, observation-ok};
-ghost use Rattle.facts.specs.Words.{zeros, clock, probe-fits, later-fits, head-fits};
+ghost use Rattle.model.specs.Layout.{decode, counts-ok, settings-ok, settings-of, small-ok, cold-ok, hedged-ok, observation-ok};
+ghost use Rattle.facts.specs.Words.{zeros, clock, since-fits, probe-fits, later-fits, head-fits};
 
-fn to_usize(x: u64) -> usize
+pub fn to_usize(x: u64) -> usize
     ensures { λ r. ⌜ r ≡ x ⌝ }
 {
     x as usize
@@ -74,28 +74,17 @@ fn small(w: &[u64]) -> bool
         & (w[3610] <= 256)
 }
 
-fn stall(w: &[u64]) -> bool
-    requires { ⌜ (length (now w) ≡ 4096) × (clock (now w) ≤ 4611686018427387904) ⌝ }
-    ensures { λ r. ⌜ r ≡ stall-ok (decode (now (w .entry))) ⌝ }
+// The stall or the stuck frontier: six words from a on, the first a stored time, the second at most m.
+fn since(w: &[u64], a: usize, m: u64) -> bool
+    requires { ⌜ (length (now w) ≡ 4096) × (clock (now w) ≤ 4611686018427387904) × (a + 6 ≤ 4096) ⌝ }
+    ensures { λ r. ⌜ r ≡ since-fits (now (w .entry)) a m ⌝ }
 {
-    let since = w[3611];
-    if since == 0 {
-        return any_bits(w, 3611, 6) == 0;
+    let t = w[a];
+    if t == 0 {
+        return any_bits(w, a, 6) == 0;
     }
     let latest = w[3586] + 1;
-    (since <= latest) & (w[3612] <= 255)
-}
-
-fn stuck(w: &[u64]) -> bool
-    requires { ⌜ (length (now w) ≡ 4096) × (clock (now w) ≤ 4611686018427387904) ⌝ }
-    ensures { λ r. ⌜ r ≡ stuck-ok (decode (now (w .entry))) ⌝ }
-{
-    let since = w[3617];
-    if since == 0 {
-        return any_bits(w, 3617, 6) == 0;
-    }
-    let latest = w[3586] + 1;
-    (since <= latest) & (w[3618] <= 0xffff_ffff)
+    (t <= latest) & (w[a + 1] <= m)
 }
 
 // The cold front: none, waiting since, or racing with another seat.
@@ -163,8 +152,8 @@ fn parts(w: &[u64]) -> bool
 {
     let a = settings(w);
     let b = small(w);
-    let c = stall(w);
-    let d = stuck(w);
+    let c = since(w, 3611, 255);
+    let d = since(w, 3617, 0xffff_ffff);
     let e = cold(w);
     let f = hedged(w);
     let g = observation(w);

@@ -9,12 +9,6 @@ ghost use Rattle.model.specs.Layout.{is-window};
 ghost use Rattle.model.specs.Refusals.{is-long};
 ghost use Rattle.facts.specs.Words.{count, clock, blank-at, tails-zero, unused-zero, fields-fit, rises, records-fit, total-fits, earlier, oldest-of, start-by, most-raced, seat-by, seats-fit};
 
-fn to_usize(x: u64) -> usize
-    ensures { λ r. ⌜ r ≡ x ⌝ }
-{
-    x as usize
-}
-
 // ---- what must be 0
 
 // OR of the eight words of place i.
@@ -37,7 +31,7 @@ fn tails(w: &[u64]) -> u64
     requires { ⌜ (length (now w) ≡ 4096) × (count (now w) ≤ 256) ⌝ }
     ensures { λ r. ⌜ eqb r 0 ≡ tails-zero (now (w .entry)) ⌝ }
 {
-    let n = to_usize(w[3585]);
+    let n = check_head::to_usize(w[3585]);
     let m = 256 - n;
     let mut acc: u64 = 0;
     for k in 0..m {
@@ -179,7 +173,7 @@ fn records(w: &[u64]) -> bool
     requires { ⌜ (length (now w) ≡ 4096) × (count (now w) ≤ 256) × (clock (now w) ≤ 4611686018427387904) ⌝ }
     ensures { λ r. ⌜ r ≡ (records-fit (now (w .entry)) && total-fits (now (w .entry)) && seats-fit (now (w .entry))) ⌝ }
 {
-    let n = to_usize(w[3585]);
+    let n = check_head::to_usize(w[3585]);
     let mut first = [0u64; 256];
     let mut sum: u64 = 0;
     for i in 0..n {
@@ -189,7 +183,7 @@ fn records(w: &[u64]) -> bool
         if !rising(w, i) {
             return false;
         }
-        let s = to_usize(w[1024 + i]);
+        let s = check_head::to_usize(w[1024 + i]);
         let t = w[1280 + i];
         let m = first[s];
         first[s] = sooner(t, m);

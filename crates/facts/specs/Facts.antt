@@ -17,8 +17,8 @@ use Rattle.model.specs.Layout.{decode, counts-ok, settings-ok, settings-of, sma
 use Rattle.model.specs.Refusals.{is-long}
 use Rattle.laws.specs.Numbers.{both, and-left, and-right, and-both}
 use Rattle.facts.specs.Flags.{Says, says-le, says-lt, says-eq, says-and, says-iff, says-is, says-all, fold, fold-every, hold-row, all-at, all-each}
-use Rattle.facts.specs.Words.{at, count, clock, latest, total, owner, time, height, estimate, entry, fields, fields-fit, rises, record-fits, records-fit, sum-of, total-fits, start, body, seat-key, cooling, racer, oldest-of, start-by, most-raced, seat-by, seat-fits, seats-fit, blank-at, tails-zero, unused-zero, zeros, probe-fits, later, later-fits, head-fits, conditions, fits}
-use Rattle.facts.specs.Head.{counts-row, counts-is, settings-row, settings-is, small-row, small-is, since-row, stall-none, stall-some, stuck-none, stuck-some, waiting-row, racing-row, cold-none, cold-waits, cold-races, hedged-many, hedged-few, observation-none, observation-some, probe-none, probe-many, probe-some, counts-count}
+use Rattle.facts.specs.Words.{at, count, clock, latest, total, owner, time, height, estimate, entry, fields, fields-fit, rises, record-fits, records-fit, sum-of, total-fits, start, body, seat-key, cooling, racer, oldest-of, start-by, most-raced, seat-by, seat-fits, seats-fit, blank-at, tails-zero, unused-zero, zeros, since-fits, probe-fits, later, later-fits, head-fits, conditions, fits}
+use Rattle.facts.specs.Head.{counts-row, counts-is, settings-row, settings-is, small-row, small-is, stall-is, stuck-is, waiting-row, racing-row, cold-none, cold-waits, cold-races, hedged-many, hedged-few, observation-none, observation-some, probe-none, probe-many, probe-some, counts-count}
 use Rattle.facts.specs.Lists.{Zeros, says-zeros, says-blank, blank-is}
 use Rattle.facts.specs.Sound.{more, none}
 use Rattle.facts.specs.Entries.{Earlier, earlier-is}
@@ -149,11 +149,11 @@ small-says ws =
     })
     (λ r. (r .engaged, (r .front-mean, (r .advance, (r .wait, (r .preferred, r .attempted))))))))
 
--- a group of n words from k on, that is there since the stored time at k; the next word is at most `most`
-pub record Since (ws : List ℕ) (k n m : ℕ) : Type 0 where
-  pub absent : at ws k ≡ 0 → Zeros ws (3584 + k) n
-  pub late : 0 < at ws k → at ws k ≤ latest ws
-  pub next : 0 < at ws k → at ws (k + 1) ≤ m
+-- a group of six words from a on, that is there since the stored time in its first; its second is at most m
+pub record Since (ws : List ℕ) (a m : ℕ) : Type 0 where
+  pub absent : getD ws a 0 ≡ 0 → Zeros ws a 6
+  pub late : 0 < getD ws a 0 → getD ws a 0 ≤ latest ws
+  pub next : 0 < getD ws a 0 → getD ws (a + 1) 0 ≤ m
 
 pub record Cold (ws : List ℕ) : Type 0 where
   pub kinds : at ws 39 ≤ 2
@@ -183,16 +183,15 @@ pub record Probe (ws : List ℕ) : Type 0 where
   pub there : 0 < at ws 61 → Probing ws
 
 module _ (ws : List ℕ) (long : length ws ≡ 4096) where
-  pub since-says : (k n m : ℕ) (b : Bool) → 3584 + k + n ≤ 4096 → (at ws k ≡ 0 → zeros ws (3584 + k) n ≡ b)
-      → ((at ws k ≡ 0 → ⊥) → fold (since-row k m (latest ws) (at ws)) ≡ b) → Says b (Since ws k n m)
-  unfolding since-row
-  since-says k n m b h f g = elim (both (eqb (at ws k) 0)) [
-    | inl q ↦ let z = eqb-true (at ws k) 0 q in says-is (sym (f z)) (says-iff (says-zeros ws (3584 + k) n (omega arith))
+  pub since-says : (a m : ℕ) → a + 6 ≤ 4096 → Says (since-fits ws a m) (Since ws a m)
+  unfolding since-fits
+  since-says a m h = elim (both (eqb (getD ws a 0) 0)) [
+    | inl q ↦ let z = eqb-true (getD ws a 0) 0 q in rw q (says-iff (says-zeros ws a 6 (omega arith))
         (λ p. record { absent = λ e. p; late = λ l. absurd (omega arith); next = λ l. absurd (omega arith) }) (λ r. r .absent z))
-    | inr q ↦ let d = eqb-false (at ws k) 0 q in
-        let pos : 0 < at ws k = omega (arith, d) in
-        says-is (sym (g d)) (says-is (fold-every (since-row k m (latest ws) (at ws))) (says-iff
-        (says-more _ _ (says-le (at ws k) (latest ws)) (says-last _ (says-le (at ws (k + 1)) m)))
+    | inr q ↦ let d = eqb-false (getD ws a 0) 0 q in
+        let pos : 0 < getD ws a 0 = omega (arith, d) in
+        rw q (says-is (fold-every _) (says-iff
+        (says-more _ _ (says-le (getD ws a 0) (latest ws)) (says-last _ (says-le (getD ws (a + 1) 0) m)))
         (λ p. record { absent = λ e. absurd (d e); late = λ l. p .0; next = λ l. p .1 }) (λ r. (r .late pos, r .next pos))))
   ]
 
@@ -325,8 +324,8 @@ pub record Facts (ws : List ℕ) : Type 0 where
   pub counts : Counts ws
   pub settings : Set ws
   pub small : Small ws
-  pub stall : Since ws 27 6 max-seat
-  pub stuck : Since ws 33 6 max-height
+  pub stall : Since ws 3611 max-seat
+  pub stuck : Since ws 3617 max-height
   pub cold : Cold ws
   pub hedged : Hedged ws
   pub observation : Observed ws
@@ -340,11 +339,11 @@ pub record Facts (ws : List ℕ) : Type 0 where
   pub seats : (s : ℕ) → s < 256 → Seat ws s
 
 module _ (ws : List ℕ) where
-  stall-says : length ws ≡ 4096 → Says (stall-ok (decode ws)) (Since ws 27 6 max-seat)
-  stall-says long = since-says ws long 27 6 max-seat (stall-ok (decode ws)) (omega arith) (stall-none ws) (stall-some ws)
+  stall-says : length ws ≡ 4096 → Says (stall-ok (decode ws)) (Since ws 3611 max-seat)
+  stall-says long = says-is (sym (stall-is ws)) (since-says ws long 3611 max-seat (omega arith))
 
-  stuck-says : length ws ≡ 4096 → Says (stuck-ok (decode ws)) (Since ws 33 6 max-height)
-  stuck-says long = since-says ws long 33 6 max-height (stuck-ok (decode ws)) (omega arith) (stuck-none ws) (stuck-some ws)
+  stuck-says : length ws ≡ 4096 → Says (stuck-ok (decode ws)) (Since ws 3617 max-height)
+  stuck-says long = says-is (sym (stuck-is ws)) (since-says ws long 3617 max-height (omega arith))
 
   tails-says : Says (tails-zero ws) ((k c : ℕ) → k < 256 - count ws → c < 8 → getD ws (256 * c + (count ws + k)) 0 ≡ 0)
   unfolding tails-zero

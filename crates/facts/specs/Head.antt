@@ -14,7 +14,7 @@ use Rattle.model.specs.Lists.{all, every}
 use Rattle.model.specs.Layout.{Table, is-0, word, words-at, decode, settings-of, counts-ok, settings-ok, small-ok, stall-ok, stuck-ok, cold-ok, cold-by, hedged-ok, observation-ok, observation-by}
 use Rattle.model.specs.Layout as layout
 use Rattle.facts.specs.Flags.{fold, fold-every, hold, hold-row, all-snoc}
-use Rattle.facts.specs.Words.{zeros, at, clock, latest, probe-fits, later-fits, head-fits}
+use Rattle.facts.specs.Words.{zeros, at, clock, latest, since-fits, probe-fits, later-fits, head-fits}
 use Rattle.laws.specs.Numbers.{and-left}
 
 pub refuted : (b : Bool) → (b ≡ true → ⊥) → false ≡ b
@@ -81,7 +81,7 @@ small-row late f =
     leb (f 21) 1 ∷ leb (f 22) (suc max-front-mean) ∷ leb (f 23) late ∷ leb (f 24) max-duration ∷ leb (f 25) (suc max-seat) ∷ leb (f 26) (suc max-seat) ∷ []
 
 -- a group since the stored time at k, with a word after it that is at most `most`
-unfoldable pub since-row : ℕ → ℕ → ℕ → (ℕ → ℕ) → List Bool
+unfoldable since-row : ℕ → ℕ → ℕ → (ℕ → ℕ) → List Bool
 since-row k most late f = leb (f k) late ∷ leb (f (k + 1)) most ∷ []
 
 unfoldable pub waiting-row : ℕ → (ℕ → ℕ) → List Bool
@@ -121,21 +121,20 @@ module _ (ws : List ℕ) where
   first : (k n : ℕ) → at ws k ≡ n → word k t ≡ n
   first k n e = word-at ws k ∙ e
 
-  pub stall-none : at ws 27 ≡ 0 → zeros ws 3611 6 ≡ stall-ok t
-  unfolding stall-ok
-  stall-none e = rw (eq-eqb (word 27 t) 0 (first 27 0 e)) (part ws 27 6)
+  since-is : (k m : ℕ) → since-fits ws (3584 + k) m ≡ cond (is-0 (word k t)) (layout.zeros k 6 t) (every (since-row k m (suc (word 2 t)) g))
+  unfolding since-fits since-row
+  since-is k m =
+      let e : 3584 + k + 1 ≡ 3584 + (k + 1) = omega arith in
+      (λ i. cond (eqb (at ws k) 0) (zeros ws (3584 + k) 6) (fold (leb (at ws k) (latest ws) ∷ leb (getD ws (e i) 0) m ∷ [])))
+      ∙ (λ i. cond (eqb (heads ws i k) 0) (part ws k 6 i) (timed (since-row k m) i))
 
-  pub stall-some : (at ws 27 ≡ 0 → ⊥) → fold (since-row 27 max-seat (latest ws) (at ws)) ≡ stall-ok t
+  pub stall-is : since-fits ws 3611 max-seat ≡ stall-ok t
   unfolding stall-ok since-row
-  stall-some e = rw (ne-eqb (word 27 t) 0 (λ q. e (sym (word-at ws 27) ∙ q))) (timed (since-row 27 max-seat))
+  stall-is = since-is 27 max-seat
 
-  pub stuck-none : at ws 33 ≡ 0 → zeros ws 3617 6 ≡ stuck-ok t
-  unfolding stuck-ok
-  stuck-none e = rw (eq-eqb (word 33 t) 0 (first 33 0 e)) (part ws 33 6)
-
-  pub stuck-some : (at ws 33 ≡ 0 → ⊥) → fold (since-row 33 max-height (latest ws) (at ws)) ≡ stuck-ok t
+  pub stuck-is : since-fits ws 3617 max-height ≡ stuck-ok t
   unfolding stuck-ok since-row
-  stuck-some e = rw (ne-eqb (word 33 t) 0 (λ q. e (sym (word-at ws 33) ∙ q))) (timed (since-row 33 max-height))
+  stuck-is = since-is 33 max-height
 
   pub cold-none : at ws 39 ≡ 0 → zeros ws 3623 7 ≡ cold-ok t
   unfolding cold-ok

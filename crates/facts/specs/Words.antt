@@ -148,6 +148,10 @@ unused-zero ws = tails-zero ws && zeros ws 2048 256
 
 -- ---- the head, but for the racers of its probe, which `seat-fits` has
 
+-- a group of six words from a on, by the stored time in its first; its second is at most m
+unfoldable pub since-fits : List ℕ → ℕ → ℕ → Bool
+since-fits ws a m = cond (eqb (getD ws a 0) 0) (zeros ws a 6) (fold (leb (getD ws a 0) (latest ws) ∷ leb (getD ws (a + 1) 0) m ∷ []))
+
 unfoldable pub probe-fits : Table → Bool
 probe-fits t =
     cond (is-0 (word 61 t)) (layout.zeros 61 36 t)

@@ -5,7 +5,6 @@ use Rattle.facts.specs.Flags.{fold}
 use borrow.Author.Needs.{needs}
 use Rattle.check_head.proofs.cold.Statement.{statement}
 use Rattle.check_head.proofs.cold.Tie as tie
-use Rattle.check_head.proofs.any_bits.Reads as any-bits-reads
 
 shared-slice-read-tag : tie.Need-shared-slice-read-tag
 shared-slice-read-tag c = search needs

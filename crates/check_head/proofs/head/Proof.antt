@@ -8,8 +8,6 @@ use Rattle.facts.specs.Head.{counts-clock}
 use borrow.Author.Needs.{needs}
 use Rattle.check_head.proofs.head.Statement.{statement}
 use Rattle.check_head.proofs.head.Tie as tie
-use Rattle.check_head.proofs.counts.Reads as counts-reads
-use Rattle.check_head.proofs.parts.Reads as parts-reads
 
 holds : (c : tie.Else1) → counts-ok (decode (c .before .before .before .args .w .now)) ≡ true
 holds c = sym (c .before .counts .ensures) ∙ not-false (c .before .counts .result) (c .if1 .left)

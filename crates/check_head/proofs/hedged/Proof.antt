@@ -4,8 +4,6 @@ use Rattle.facts.specs.Head.{hedged-many, hedged-few}
 use borrow.Author.Needs.{needs}
 use Rattle.check_head.proofs.hedged.Statement.{statement}
 use Rattle.check_head.proofs.hedged.Tie as tie
-use Rattle.check_head.proofs.any_bits.Reads as any-bits-reads
-use Rattle.check_head.proofs.to_usize.Reads as to-usize-reads
 
 shared-slice-read-to-usize : tie.Need-shared-slice-read-to-usize
 shared-slice-read-to-usize c = search needs

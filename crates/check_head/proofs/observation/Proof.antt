@@ -4,7 +4,6 @@ use Rattle.facts.specs.Head.{observation-none, observation-some}
 use borrow.Author.Needs.{needs}
 use Rattle.check_head.proofs.observation.Statement.{statement}
 use Rattle.check_head.proofs.observation.Tie as tie
-use Rattle.check_head.proofs.any_bits.Reads as any-bits-reads
 
 shared-slice-read-tag : tie.Need-shared-slice-read-tag
 shared-slice-read-tag c = search needs

@@ -5,8 +5,6 @@ use Rattle.facts.specs.Flags.{fold}
 use borrow.Author.Needs.{needs}
 use Rattle.check_head.proofs.probe.Statement.{statement}
 use Rattle.check_head.proofs.probe.Tie as tie
-use Rattle.check_head.proofs.any_bits.Reads as any-bits-reads
-use Rattle.check_head.proofs.to_usize.Reads as to-usize-reads
 
 shared-slice-read-since : tie.Need-shared-slice-read-since
 shared-slice-read-since c = search needs

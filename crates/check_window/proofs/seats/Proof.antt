@@ -10,8 +10,6 @@ use Rattle.facts.specs.Bits.{or-top}
 use borrow.Author.Needs.{needs}
 use Rattle.check_window.proofs.seats.Statement.{statement}
 use Rattle.check_window.proofs.seats.Tie as tie
-use Rattle.check_window.proofs.raced.Reads as raced-reads
-use Rattle.check_window.proofs.seat_top.Reads as seat-top-reads
 
 abbrev Inv-loop : tie.InvT-loop
 Inv-loop w first latest most acc₀ s₀ acc s = (latest ≡ clock w + 1) × (most ≡ most-raced (at w 61)) × (most < 2 ^ 63) × (s ≤ 256) × (ltb acc (2 ^ 63) ≡ all-below s (seat-fits w))

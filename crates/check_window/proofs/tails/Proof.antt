@@ -10,8 +10,6 @@ use Rattle.facts.specs.Bits.{or-zero}
 use borrow.Author.Needs.{needs}
 use Rattle.check_window.proofs.tails.Statement.{statement}
 use Rattle.check_window.proofs.tails.Tie as tie
-use Rattle.check_window.proofs.place.Reads as place-reads
-use Rattle.check_window.proofs.to_usize.Reads as to-usize-reads
 
 abbrev Inv-loop : tie.InvT-loop
 Inv-loop w n m acc₀ k₀ acc k = (n ≡ count w) × (m ≡ 256 - n) × (k ≤ m) × (eqb acc 0 ≡ all-below k (λ j. blank-at w (n + j)))
