@@ -1,12 +1,12 @@
 -- OR, AND and differences that wrap, as flags: what is 0, and what has no top bit. Assumes nothing.
-use mathlib.Core.Path.{_≡_, refl, sym, ap, _∙_}
+use mathlib.Core.Path.{_≡_, refl, ap, _∙_}
 use mathlib.Core.Logic.{inl, inr}
-use mathlib.Core.Bool.{Bool, true, false, _&&_, _||_, cond, or-true, or-false}
+use mathlib.Core.Bool.{Bool, true, _&&_, _||_, or-true, or-false}
 use Prim.Native.Nat.{ℕ, _+_, _-_, _*_, _≤_, _<_, _^_, _%_}
 use native.Mathlib.Omega.{arith}
 use lib.Dec.{eqb, ltb, leb}
-use lib.Bits.{bitOr, bitAnd, or-add-and, and-le-l, and-le-r, or-lt, or-zero-l, and-block, and-self}
-use borrow.Author.Tests.{ltb-true, ltb-false, leb-true, leb-false, eqb-true, eqb-false, lt-ltb, le-ltb, le-leb, lt-leb, eq-eqb, ne-eqb}
+use lib.Bits.{bitOr, bitAnd, or-add-and, and-le-l, and-le-r, or-lt, and-block, and-self}
+use borrow.Author.Tests.{ltb-true, ltb-false, leb-true, eqb-true, eqb-false, lt-ltb, le-ltb, le-leb, eq-eqb, ne-eqb}
 use Rattle.facts.specs.Words.{earlier, start-by}
 use Rattle.laws.specs.Numbers.{both, and-left, and-right, and-both}
 use Rattle.facts.specs.Flags.{same}

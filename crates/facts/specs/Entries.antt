@@ -1,25 +1,24 @@
 -- The records of the words as the model's list of entries: what is said of record i by its words is said of the list's elements. Assumes nothing.
 use mathlib.Core.Path.{_≡_, refl, sym, ap, _∙_}
 use mathlib.Core.Logic.{_⊎_, inl, inr, ⊎-elim}
-use mathlib.Core.Bool.{Bool, true, false, _&&_, _||_, cond, and-true, or-true}
+use mathlib.Core.Bool.{true, _||_, cond}
 use mathlib.Core.List.{List, [], _∷_, _++_}
-use Prim.Native.Nat.{ℕ, zero, suc, _+_, _*_, _-_, _≤_, _<_}
+use Prim.Native.Nat.{ℕ, zero, suc, _+_, _-_, _≤_, _<_}
 use native.Mathlib.Nat.{le-antisymm, le-of-suc-le-suc, not-suc-le-zero}
 use native.Mathlib.Numerals.{add-one}
 use native.Mathlib.Omega.{arith}
-use lib.ListN.{length, getD, take, drop}
+use lib.ListN.{length, getD, take}
 use lib.Dec.{eqb, ltb, leb}
-use borrow.Author.Tests.{eqb-true, eqb-false, ltb-true, ltb-false, eq-eqb, ne-eqb, lt-ltb, le-ltb, le-leb, lt-leb}
+use borrow.Author.Tests.{eqb-true, eqb-false, ltb-true, ltb-false, ne-eqb, le-leb}
 use Rattle.model.specs.Numbers.{lesser}
-use Rattle.model.specs.Lists.{all}
 use Rattle.model.specs.Hash.{less}
 use Rattle.model.specs.Records.{sum}
 use Rattle.model.specs.Seats.{sooner, oldest}
-use Rattle.model.specs.Layout.{blank, rows, entry-ok, less-first, rising}
+use Rattle.model.specs.Layout.{blank, rows, entry-ok, rising}
 use Rattle.model.specs.declared.Entry.{Entry}
 use Rattle.laws.specs.Numbers.{both, and-left, and-right, and-both}
-use Rattle.facts.specs.Flags.{Says, says-iff, says-is, says-and, fold-every}
-use Rattle.facts.specs.Words.{count, clock, owner, time, estimate, entry, fields, fields-fit, rises, sum-of, earlier, oldest-of}
+use Rattle.facts.specs.Flags.{Says, says-iff, says-le, fold-every}
+use Rattle.facts.specs.Words.{clock, owner, time, estimate, entry, fields, fields-fit, rises, sum-of, earlier, oldest-of}
 use Rattle.facts.specs.Lists.{length-first, first-more, first-is}
 
 -- ---- ranges
@@ -108,7 +107,7 @@ sooner-is t zero = add-one t
 sooner-is t (suc u) = rw (ne-eqb (suc u) 0 (λ q. omega arith), add-one) (elim (both (ltb (suc t) (suc u))) [
   | inl p ↦ let l = ltb-true (suc t) (suc u) p in rw (p, le-leb (suc t) (suc u) (omega arith))
   | inr p ↦ let l = ltb-false (suc t) (suc u) p in rw p (elim (both (leb (suc t) (suc u))) [
-    | inl q ↦ let e : suc u ≡ suc t = omega (arith, Rattle.facts.specs.Flags.says-le (suc t) (suc u) .gives q) in rw q e
+    | inl q ↦ let e : suc u ≡ suc t = omega (arith, says-le (suc t) (suc u) .gives q) in rw q e
     | inr q ↦ rw q
   ])
 ])

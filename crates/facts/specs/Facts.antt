@@ -1,13 +1,13 @@
 -- What the model's `is-window` says in numbers, both ways: `facts` takes a window apart, `window` puts one together. A caller's proof starts from `facts`,
 -- and a function that writes words ends with `window`. Each condition is read once for both ways. Assumes nothing.
 use mathlib.Core.Path.{_≡_, refl, sym, ap, _∙_}
-use mathlib.Core.Logic.{_⊎_, inl, inr, ⊎-elim}
-use mathlib.Core.Bool.{Bool, true, false, _&&_, _||_, cond, false≢true}
+use mathlib.Core.Logic.{inl, inr, ⊎-elim}
+use mathlib.Core.Bool.{Bool, true, false, false≢true}
 use mathlib.Core.List.{List, [], _∷_}
 use Prim.Native.Nat.{ℕ, zero, suc, _+_, _*_, _-_, _≤_, _<_}
 use native.Mathlib.Nat.{le-of-suc-le-suc, not-suc-le-zero, eq-or-lt-of-le}
 use native.Mathlib.Omega.{arith}
-use lib.Dec.{eqb, ltb, leb}
+use lib.Dec.{eqb, leb}
 use lib.ListN.{length, getD}
 use borrow.Author.Tests.{eqb-true, eqb-false, leb-false, ltb-true, lt-ltb, eq-eqb}
 use Rattle.model.specs.Numbers.{max-clock, max-height, min-estimate, max-estimate, max-duration, max-byte-limit, max-count, max-pending, max-seat, max-front-mean}
@@ -17,11 +17,12 @@ use Rattle.model.specs.Layout.{decode, counts-ok, settings-ok, settings-of, sma
 use Rattle.model.specs.Refusals.{is-long}
 use Rattle.laws.specs.Numbers.{both, and-left, and-right, and-both}
 use Rattle.facts.specs.Flags.{Says, says-le, says-lt, says-eq, says-and, says-iff, says-is, says-all, fold, fold-every, hold-row, all-at, all-each}
-use Rattle.facts.specs.Words.{at, count, clock, latest, total, owner, time, height, estimate, entry, fields, fields-fit, rises, record-fits, records-fit, sum-of, total-fits, start, body, seat-key, cooling, racer, oldest-of, start-by, most-raced, seat-by, seat-fits, seats-fit, blank-at, tails-zero, unused-zero, zeros, since-fits, probe-fits, later, later-fits, head-fits, conditions, fits}
-use Rattle.facts.specs.Head.{counts-row, counts-is, settings-row, settings-is, small-row, small-is, stall-is, stuck-is, waiting-row, racing-row, cold-none, cold-waits, cold-races, hedged-many, hedged-few, observation-none, observation-some, probe-none, probe-many, probe-some, counts-count}
+use Rattle.facts.specs.Words.{at, count, clock, latest, total, owner, time, height, estimate, entry, fields, fields-fit, rises, record-fits, records-fit, sum-of, total-fits, oldest-of, seat-fits, seats-fit, blank-at, tails-zero, unused-zero, zeros, since-fits, probe-fits, later, later-fits, head-fits, conditions, fits}
+use Rattle.facts.specs.Head.{counts-row, counts-is, settings-row, settings-is, small-row, small-is, stall-is, stuck-is, waiting-row, racing-row, cold-none, cold-waits, cold-races, hedged-many, hedged-few, observation-none, observation-some, probe-none, probe-many, probe-some}
 use Rattle.facts.specs.Lists.{Zeros, says-zeros, says-blank, blank-is}
 use Rattle.facts.specs.Sound.{more, none}
-use Rattle.facts.specs.Entries.{Earlier, earlier-is}
+use Rattle.facts.specs.Entries.{earlier-is}
+use Rattle.facts.specs.Seats.{Seat, seat-says}
 use Rattle.facts.specs.Whole.{fits-is}
 
 -- ---- a row of tests
@@ -250,7 +251,7 @@ module _ (ws : List ℕ) (long : length ws ≡ 4096) where
         ]
   ]
 
--- ---- records and seats
+-- ---- records
 
 pub record Record (ws : List ℕ) (i : ℕ) : Type 0 where
   pub seat : owner ws i ≤ max-seat
@@ -279,43 +280,6 @@ record-says ws i =
     (says-more _ _ (says-le min-estimate (estimate ws i)) (says-last _ (says-le (estimate ws i) max-estimate))))))) (rises-says ws i))
     (λ p. record { seat = p .0 .0; past = p .0 .1 .0; low = p .0 .1 .1 .0; least = p .0 .1 .1 .1 .0; most = p .0 .1 .1 .1 .1; above = p .1 })
     (λ r. ((r .seat, (r .past, (r .low, (r .least, r .most)))), r .above))
-
--- a start a, of a seat whose oldest record is from old
-pub record Start (late old a : ℕ) : Type 0 where
-  pub most : a ≤ late
-  pub absent : old ≡ 0 → a ≡ 0
-  pub there : 0 < old → old ≤ a
-
-pub start-says : (late old a : ℕ) → Says (start-by late old a) (Start late old a)
-unfolding start-by
-start-says late old a = elim (both (eqb old 0)) [
-  | inl q ↦ let z = eqb-true old 0 q in rw q (says-iff (says-and (leb a late) (eqb a 0) (says-le a late) (says-eq a 0))
-      (λ p. record { most = p .0; absent = λ e. p .1; there = λ l. absurd (omega arith) }) (λ r. (r .most, r .absent z)))
-  | inr q ↦ let n = eqb-false old 0 q in rw q (says-iff (says-and (leb a late) (leb old a) (says-le a late) (says-le old a))
-      (λ p. record { most = p .0; absent = λ e. absurd (n e); there = λ l. p .1 }) (λ r. (r .most, r .there (omega (arith, n)))))
-]
-
-pub record Seat (ws : List ℕ) (s : ℕ) : Type 0 where
-  pub starts : Start (latest ws) (oldest-of ws s (count ws)) (start ws s)
-  pub bodies : body ws s ≤ latest ws
-  pub keys : seat-key ws s ≤ max-seat
-  pub cools : cooling ws s ≤ latest ws
-  pub races : racer ws s ≤ most-raced (at ws 61)
-
-pub seat-says : (ws : List ℕ) (s : ℕ) → Says (seat-fits ws s) (Seat ws s)
-unfolding seat-fits seat-by
-seat-says ws s =
-    let late = latest ws in
-    let a = start-by late (oldest-of ws s (count ws)) (start ws s) in
-    let b = leb (body ws s) late in
-    let c = leb (seat-key ws s) max-seat in
-    let d = leb (cooling ws s) late in
-    says-iff
-    (says-and (a && b && c && d) (leb (racer ws s) (most-raced (at ws 61)))
-    (says-and (a && b && c) d (says-and (a && b) c (says-and a b (start-says late (oldest-of ws s (count ws)) (start ws s)) (says-le (body ws s) late))
-    (says-le (seat-key ws s) max-seat)) (says-le (cooling ws s) late)) (says-le (racer ws s) (most-raced (at ws 61))))
-    (λ p. record { starts = p .0 .0 .0 .0; bodies = p .0 .0 .0 .1; keys = p .0 .0 .1; cools = p .0 .1; races = p .1 })
-    (λ r. ((((r .starts, r .bodies), r .keys), r .cools), r .races))
 
 -- ---- all of it
 

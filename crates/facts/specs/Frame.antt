@@ -1,6 +1,6 @@
 -- What the words outside the columns have no part in: two lists with the same columns have the same entries, sums and oldest records. A function that
 -- writes a table or the head cites these. Assumes nothing.
-use mathlib.Core.Path.{_≡_, refl, sym, ap, _∙_}
+use mathlib.Core.Path.{_≡_, refl}
 use mathlib.Core.Bool.{cond}
 use mathlib.Core.List.{List}
 use Prim.Native.Nat.{ℕ, zero, suc, _+_, _≤_, _<_}

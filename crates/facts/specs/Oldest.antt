@@ -1,19 +1,19 @@
 -- The table of each seat's oldest record and the sum, as a loop over the records makes them. Assumes nothing.
 use mathlib.Core.Path.{_≡_, refl, sym, ap, _∙_}
 use mathlib.Core.Logic.{inl, inr}
-use mathlib.Core.Bool.{Bool, true, false, _&&_, _||_, cond}
+use mathlib.Core.Bool.{true, _||_}
 use mathlib.Core.List.{List}
-use Prim.Native.Nat.{ℕ, zero, suc, _+_, _*_, _≤_, _<_}
+use Prim.Native.Nat.{ℕ, zero, suc, _+_, _≤_, _<_}
 use native.Mathlib.Omega.{arith}
 use native.Mathlib.Numerals.{add-one}
-use lib.Dec.{eqb, ltb, leb}
+use lib.Dec.{eqb, ltb}
 use lib.ListN.{length, getD, set, replicate}
 use lib.Seq.{getD-set-same, getD-set-other}
 use borrow.Author.Tests.{eqb-true, eqb-false, leb-true}
-use Rattle.model.specs.Numbers.{max-seat, max-height, min-estimate, max-estimate}
+use Rattle.model.specs.Numbers.{max-seat, max-estimate}
 use Rattle.laws.specs.Numbers.{both, and-left, and-right}
 use Rattle.facts.specs.Flags.{all-below, hold-row}
-use Rattle.facts.specs.Words.{owner, time, height, estimate, clock, fields, fields-fit, rises, record-fits, earlier, oldest-of, sum-of}
+use Rattle.facts.specs.Words.{owner, time, estimate, clock, fields, fields-fit, rises, record-fits, earlier, oldest-of, sum-of}
 
 pub getD-replicate : (n s : ℕ) → getD {A = ℕ} (replicate n 0) s 0 ≡ 0
 getD-replicate zero s = refl

@@ -1,7 +1,7 @@
--- The tables by seat: what is said of seat s by its words is said of the model's lists. Assumes nothing.
+-- The tables by seat: what is said of seat s by its words, in numbers, is said of the model's lists. Assumes nothing.
 use mathlib.Core.Path.{_≡_, refl, sym, ap, _∙_}
 use mathlib.Core.Logic.{inl, inr}
-use mathlib.Core.Bool.{Bool, true, false, _&&_, cond, and-true, and-comm}
+use mathlib.Core.Bool.{Bool, true, _&&_, and-true, and-comm}
 use mathlib.Core.List.{List, [], _∷_}
 use Prim.Native.Nat.{ℕ, zero, suc, _+_, _≤_, _<_}
 use native.Mathlib.Nat.{le-of-suc-le-suc, not-suc-le-zero}
@@ -9,14 +9,15 @@ use native.Mathlib.Numerals.{add-one}
 use native.Mathlib.Omega.{arith}
 use lib.ListN.{length, getD}
 use lib.Dec.{eqb, leb}
-use borrow.Author.Tests.{eqb-true, eqb-false, leb-true, eq-eqb, le-leb}
+use borrow.Author.Tests.{eqb-true, eqb-false, eq-eqb, le-leb}
+use Rattle.model.specs.Numbers.{max-seat}
 use Rattle.model.specs.Lists.{every}
 use Rattle.model.specs.Seats.{oldest}
 use Rattle.model.specs.Layout.{start-ok, starts-ok}
 use Rattle.model.specs.declared.Entry.{Entry}
 use Rattle.laws.specs.Numbers.{both, and-left, and-right, and-both}
-use Rattle.facts.specs.Flags.{Says, same}
-use Rattle.facts.specs.Words.{start-by, most-raced}
+use Rattle.facts.specs.Flags.{same, Says, says-le, says-eq, says-and, says-iff}
+use Rattle.facts.specs.Words.{at, count, latest, start, body, seat-key, cooling, racer, oldest-of, start-by, most-raced, seat-by, seat-fits}
 
 -- a start by its oldest, in the model's order
 pub start-is : (c old s : ℕ) → start-by (c + 1) old s ≡ start-ok c old s
@@ -70,3 +71,42 @@ raced-in probe r h f = elim (both (eqb probe 0)) [
   | inl q ↦ let z = f (eqb-true probe 0 q) in rw q (omega arith)
   | inr q ↦ rw q h
 ]
+
+-- ---- a seat in numbers
+
+-- a start a, of a seat whose oldest record is from old
+pub record Start (late old a : ℕ) : Type 0 where
+  pub most : a ≤ late
+  pub absent : old ≡ 0 → a ≡ 0
+  pub there : 0 < old → old ≤ a
+
+pub start-says : (late old a : ℕ) → Says (start-by late old a) (Start late old a)
+unfolding start-by
+start-says late old a = elim (both (eqb old 0)) [
+  | inl q ↦ let z = eqb-true old 0 q in rw q (says-iff (says-and (leb a late) (eqb a 0) (says-le a late) (says-eq a 0))
+      (λ p. record { most = p .0; absent = λ e. p .1; there = λ l. absurd (omega arith) }) (λ r. (r .most, r .absent z)))
+  | inr q ↦ let n = eqb-false old 0 q in rw q (says-iff (says-and (leb a late) (leb old a) (says-le a late) (says-le old a))
+      (λ p. record { most = p .0; absent = λ e. absurd (n e); there = λ l. p .1 }) (λ r. (r .most, r .there (omega (arith, n)))))
+]
+
+pub record Seat (ws : List ℕ) (s : ℕ) : Type 0 where
+  pub starts : Start (latest ws) (oldest-of ws s (count ws)) (start ws s)
+  pub bodies : body ws s ≤ latest ws
+  pub keys : seat-key ws s ≤ max-seat
+  pub cools : cooling ws s ≤ latest ws
+  pub races : racer ws s ≤ most-raced (at ws 61)
+
+pub seat-says : (ws : List ℕ) (s : ℕ) → Says (seat-fits ws s) (Seat ws s)
+unfolding seat-fits seat-by
+seat-says ws s =
+    let late = latest ws in
+    let a = start-by late (oldest-of ws s (count ws)) (start ws s) in
+    let b = leb (body ws s) late in
+    let c = leb (seat-key ws s) max-seat in
+    let d = leb (cooling ws s) late in
+    says-iff
+    (says-and (a && b && c && d) (leb (racer ws s) (most-raced (at ws 61)))
+    (says-and (a && b && c) d (says-and (a && b) c (says-and a b (start-says late (oldest-of ws s (count ws)) (start ws s)) (says-le (body ws s) late))
+    (says-le (seat-key ws s) max-seat)) (says-le (cooling ws s) late)) (says-le (racer ws s) (most-raced (at ws 61))))
+    (λ p. record { starts = p .0 .0 .0 .0; bodies = p .0 .0 .0 .1; keys = p .0 .0 .1; cools = p .0 .1; races = p .1 })
+    (λ r. ((((r .starts, r .bodies), r .keys), r .cools), r .races))

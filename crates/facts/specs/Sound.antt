@@ -1,8 +1,7 @@
 -- The model's `valid`, condition by condition, both ways. Assumes nothing.
-use mathlib.Core.Path.{_≡_, refl, sym, ap, _∙_}
-use mathlib.Core.Bool.{Bool, true, _&&_}
+use mathlib.Core.Path.{_≡_, refl}
+use mathlib.Core.Bool.{Bool, true}
 use mathlib.Core.List.{List, [], _∷_}
-use Prim.Native.Nat.{ℕ}
 use lib.ListN.{drop}
 use lib.Dec.{eqb, leb}
 use Rattle.model.specs.Numbers.{max-seat}

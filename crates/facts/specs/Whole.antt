@@ -1,59 +1,30 @@
 -- The conditions said of words are the model's: `fits ws` is `is-long ws && is-window ws`. Assumes nothing.
-use mathlib.Core.Path.{_≡_, refl, sym, ap, _∙_}
-use mathlib.Core.Bool.{Bool, true, false, _&&_, cond}
-use mathlib.Core.List.{List, [], _∷_}
+use mathlib.Core.Path.{_≡_, sym, ap, _∙_}
+use mathlib.Core.Bool.{Bool, true, _&&_}
+use mathlib.Core.List.{List}
 use mathlib.Core.Logic.{inl, inr}
-use Prim.Native.Nat.{ℕ, zero, suc, _+_, _*_, _-_, _≤_, _<_}
+use Prim.Native.Nat.{ℕ, suc, _+_, _-_, _≤_, _<_}
 use native.Mathlib.Numerals.{add-one}
 use native.Mathlib.Omega.{arith}
 use lib.ListN.{length, getD, take, drop, length-drop}
 use lib.Seq.{length-take-le, getD-take, getD-drop}
 use lib.Dec.{eqb, leb}
-use borrow.Author.Tests.{eqb-true, eqb-false, leb-true, eq-eqb, ne-eqb, le-leb}
+use borrow.Author.Tests.{eqb-true, eqb-false, leb-true, eq-eqb, le-leb}
 use Rattle.model.specs.Numbers.{max-seat}
-use Rattle.model.specs.Lists.{all, every}
+use Rattle.model.specs.Lists.{all}
 use Rattle.model.specs.Records.{sum}
 use Rattle.model.specs.Seats.{oldest}
-use Rattle.model.specs.Layout.{Table, is-0, is-blank, rows, decode, word, words-at, live, time-ok, entry-ok, rising, start-ok, starts-ok, counts-ok, probe-ok, valid, is-window}
+use Rattle.model.specs.Layout.{Table, is-0, is-blank, rows, decode, word, live, time-ok, entry-ok, rising, start-ok, starts-ok, counts-ok, probe-ok, is-window}
 use Rattle.model.specs.Layout as layout
 use Rattle.model.specs.Refusals.{is-long}
 use Rattle.laws.specs.Numbers.{both, and-left, and-right, and-both}
 use Rattle.facts.specs.Flags.{same, Says, says-iff, says-is, says-same, says-eq, fold, fold-every, hold, hold-row, all-below, all-at, all-each}
-use Rattle.facts.specs.Words.{at, count, clock, latest, total, start, body, seat-key, cooling, racer, entry, zeros, blank-at, tails-zero, unused-zero, fields-fit, rises, record-fits, records-fit, sum-of, total-fits, oldest-of, start-by, most-raced, seat-by, seat-fits, seats-fit, probe-fits, later, later-fits, head-fits, conditions, fits}
+use Rattle.facts.specs.Words.{at, count, clock, latest, total, start, cooling, racer, zeros, blank-at, tails-zero, unused-zero, fields-fit, rises, record-fits, records-fit, sum-of, total-fits, oldest-of, start-by, seat-fits, seats-fit, probe-fits, later, later-fits, head-fits, conditions, fits}
 use Rattle.facts.specs.Head.{word-at, part, counts-count}
 use Rattle.facts.specs.Lists.{says-part, says-first, says-rest, blank-is}
 use Rattle.facts.specs.Sound.{Sound, valid-says, more, none}
 use Rattle.facts.specs.Entries.{fields-are, rises-are, sum-is, oldest-is}
-use Rattle.facts.specs.Seats.{start-is, says-starts, raced-le, raced-none, raced-in}
-
--- what a seat that fits says, condition by condition
-record Seat (ws : List ℕ) (s : ℕ) : Type 0 where
-  starts : start-by (latest ws) (oldest-of ws s (count ws)) (start ws s) ≡ true
-  bodies : body ws s ≤ latest ws
-  keys : seat-key ws s ≤ max-seat
-  cools : cooling ws s ≤ latest ws
-  races : racer ws s ≤ most-raced (at ws 61)
-
-seat-says : (ws : List ℕ) (s : ℕ) → Says (seat-fits ws s) (Seat ws s)
-unfolding seat-fits seat-by fold
-seat-says ws s =
-    let late = latest ws in
-    let most = most-raced (at ws 61) in
-    let row =
-    start-by late (oldest-of ws s (count ws)) (start ws s) ∷ leb (body ws s) late ∷ leb (seat-key ws s) max-seat ∷ leb (cooling ws s) late ∷ leb (racer ws s) most ∷ [] in
-    record {
-      gives = λ e. let h = hold-row row e in
-          record {
-            starts = h 0;
-            bodies = leb-true (body ws s) late (h 1);
-            keys = leb-true (seat-key ws s) max-seat (h 2);
-            cools = leb-true (cooling ws s) late (h 3);
-            races = leb-true (racer ws s) most (h 4);
-          };
-      from = λ q. fold-every row
-          ∙ more _ (q .starts) (more _ (le-leb (body ws s) late (q .bodies)) (more _ (le-leb (seat-key ws s) max-seat (q .keys))
-          (more _ (le-leb (cooling ws s) late (q .cools)) (more _ (le-leb (racer ws s) most (q .races)) none))));
-    }
+use Rattle.facts.specs.Seats.{start-is, says-starts, raced-le, raced-none, raced-in, Seat, seat-says, start-says}
 
 module _ (ws : List ℕ) (long : length ws ≡ 4096) where
   abbrev t : Table
@@ -171,7 +142,7 @@ module _ (ws : List ℕ) (long : length ws ≡ 4096) where
         each = says-each few .from (λ i b. and-left (fields-fit ws i) (rises ws i) (rec i b));
         rises = says-rises few .from (λ i b. and-right (fields-fit ws i) (rises ws i) (rec i b));
         sums = sym (sums-is few) ∙ h 4;
-        starts = says-starts-here few .from (λ s b. seat s b .starts);
+        starts = says-starts-here few .from (λ s b. start-says (latest ws) (oldest-of ws s (count ws)) (start ws s) .from (seat s b .starts));
         bodies = says-times 2560 (omega arith) .from (λ s b. seat s b .bodies);
         keys = says-most max-seat 2816 (omega arith) .from (λ s b. seat s b .keys);
         cooling = says-times 3072 (omega arith) .from (λ s b. seat s b .cools);
@@ -189,7 +160,7 @@ module _ (ws : List ℕ) (long : length ws ≡ 4096) where
       let up = says-rises few .gives (S .rises) in
       let seat : (s : ℕ) → s < 256 → seat-fits ws s ≡ true = λ s b.
       seat-says ws s .from (record {
-        starts = says-starts-here few .gives (S .starts) s b;
+        starts = start-says (latest ws) (oldest-of ws s (count ws)) (start ws s) .gives (says-starts-here few .gives (S .starts) s b);
         bodies = says-times 2560 (omega arith) .gives (S .bodies) s b;
         keys = says-most max-seat 2816 (omega arith) .gives (S .keys) s b;
         cools = says-times 3072 (omega arith) .gives (S .cooling) s b;

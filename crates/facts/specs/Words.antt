@@ -1,11 +1,11 @@
 -- When 4,096 words are a window, said of the words themselves, as fast code reads them: the same conditions as the model's `valid`, which are said of
 -- lists. `Whole` shows the two equal. Definitions only.
 use Prim.Native.Nat.{ℕ, zero, suc, _+_, _*_, _-_}
-use mathlib.Core.Bool.{Bool, true, false, _&&_, _||_, cond}
+use mathlib.Core.Bool.{Bool, _&&_, _||_, cond}
 use mathlib.Core.List.{List, [], _∷_}
 use lib.ListN.{length, getD, take, drop}
 use lib.Dec.{eqb, ltb, leb}
-use Rattle.model.specs.Numbers.{max-clock, max-height, min-estimate, max-estimate, max-duration, max-byte-limit, max-count, max-pending, max-seat, max-front-mean}
+use Rattle.model.specs.Numbers.{max-height, min-estimate, max-estimate, max-seat}
 use Rattle.model.specs.Lists.{all}
 use Rattle.model.specs.Hash.{hash, less}
 use Rattle.model.specs.Layout.{Table, is-0, decode, cold-ok, hedged-ok, observation-ok, settings-ok, settings-of, counts-ok, small-ok, stall-ok, stuck-ok, time-ok, word, words-at}

@@ -1,9 +1,7 @@
 -- `check_window::is_window` meets its contract: each exit is a condition that fails; past it, it holds. Assumes nothing.
-use mathlib.Core.List.{List}
 use borrow.Author.Tests.{eq-eqb, ne-eqb, not-true, not-false}
 use mathlib.Core.Path.{_≡_, sym, _∙_}
 use mathlib.Core.Bool.{true, _&&_}
-use Prim.Native.Nat.{ℕ, _≤_, _-_}
 use lib.ListN.{length}
 use borrow.Author.Needs.{needs}
 use Rattle.facts.specs.Words.{head-fits, unused-zero, records-fit, total-fits, seats-fit, conditions, fits}

@@ -1,5 +1,4 @@
 -- `check_window::raced` meets its contract: by whether there is a probe. Assumes nothing.
-use Prim.Native.Nat.{_^_}
 use native.Mathlib.Omega.{arith}
 use borrow.Author.Tests.{eq-eqb, ne-eqb}
 use Rattle.facts.specs.Words.{most-raced}

@@ -1,5 +1,4 @@
 -- `check_window::seat_top` meets its contract: an OR has no top bit exactly when its parts have none. Assumes nothing.
-use Prim.Native.Nat.{_-_}
 use mathlib.Core.Bool.{_&&_}
 use mathlib.Core.Path.{_∙_}
 use borrow.Author.Needs.{needs}

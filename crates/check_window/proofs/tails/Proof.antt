@@ -1,7 +1,7 @@
 -- `check_window::tails` meets its contract: the OR of the places passed is 0 exactly when they are blank. Assumes nothing.
 use native.Mathlib.Omega.{arith}
-use mathlib.Core.Path.{_≡_, refl, sym, ap, _∙_}
-use Prim.Native.Nat.{ℕ, _≤_, _-_, _+_}
+use mathlib.Core.Path.{_≡_, refl, sym, _∙_}
+use Prim.Native.Nat.{_≤_, _-_, _+_}
 use lib.Dec.{eqb}
 use Rattle.facts.specs.Words.{count, blank-at, tails-zero}
 use Rattle.facts.specs.Flags.{all-below, all-none, all-more}
