@@ -16,11 +16,10 @@ use Rattle.model.specs.Hash.{key, less}
 use Rattle.model.specs.Layout.{decode, counts-ok, settings-ok, settings-of, small-ok, stall-ok, stuck-ok, cold-ok, hedged-ok, observation-ok, is-window}
 use Rattle.model.specs.Refusals.{is-long}
 use Rattle.laws.specs.Numbers.{both, and-left, and-right, and-both}
-use Rattle.facts.specs.Flags.{Says, says-le, says-lt, says-eq, says-and, says-iff, says-is, says-all, fold, fold-every, hold-row, all-at, all-each}
+use Rattle.facts.specs.Flags.{Says, says-le, says-lt, says-eq, says-and, says-iff, says-is, says-all, fold, fold-every, hold-row, more, none, all-at, all-each}
 use Rattle.facts.specs.Words.{at, count, clock, latest, total, owner, time, height, estimate, entry, fields, fields-fit, rises, record-fits, records-fit, sum-of, total-fits, oldest-of, seat-fits, seats-fit, blank-at, tails-zero, unused-zero, zeros, since-fits, probe-fits, later, later-fits, head-fits, conditions, fits}
 use Rattle.facts.specs.Head.{counts-row, counts-is, settings-row, settings-is, small-row, small-is, stall-is, stuck-is, waiting-row, racing-row, cold-none, cold-waits, cold-races, hedged-many, hedged-few, observation-none, observation-some, probe-none, probe-many, probe-some}
 use Rattle.facts.specs.Lists.{Zeros, says-zeros, says-blank, blank-is}
-use Rattle.facts.specs.Sound.{more, none}
 use Rattle.facts.specs.Entries.{earlier-is}
 use Rattle.facts.specs.Seats.{Seat, seat-says}
 use Rattle.facts.specs.Whole.{fits-is}

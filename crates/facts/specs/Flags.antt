@@ -49,6 +49,15 @@ hold (b ∷ bs) e (suc i) = hold bs (and-right b (every bs) e) i
 pub hold-row : (bs : List Bool) → fold bs ≡ true → (i : ℕ) → getD bs i true ≡ true
 hold-row bs e = hold bs (sym (fold-every bs) ∙ e)
 
+-- one more test that holds
+pub more : {b : Bool} (bs : List Bool) → b ≡ true → every bs ≡ true → every (b ∷ bs) ≡ true
+unfolding every
+more {b} bs p q = and-both b (every bs) p q
+
+pub none : every [] ≡ true
+unfolding every
+none = refl
+
 -- ---- each number below n
 
 -- p holds of 0, 1, .., n - 1

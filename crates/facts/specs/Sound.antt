@@ -1,15 +1,13 @@
 -- The model's `valid`, condition by condition, both ways. Assumes nothing.
-use mathlib.Core.Path.{_≡_, refl}
-use mathlib.Core.Bool.{Bool, true}
-use mathlib.Core.List.{List, [], _∷_}
+use mathlib.Core.Path.{_≡_}
+use mathlib.Core.Bool.{true}
 use lib.ListN.{drop}
 use lib.Dec.{eqb, leb}
 use Rattle.model.specs.Numbers.{max-seat}
-use Rattle.model.specs.Lists.{all, every}
+use Rattle.model.specs.Lists.{all}
 use Rattle.model.specs.Records.{sum}
 use Rattle.model.specs.Layout.{Table, word, live, is-0, time-ok, counts-ok, settings-ok, settings-of, small-ok, stall-ok, stuck-ok, cold-ok, hedged-ok, observation-ok, probe-ok, zeros, head-ok, is-blank, entry-ok, rising, starts-ok, tables-ok, records-ok, valid}
-use Rattle.laws.specs.Numbers.{and-both}
-use Rattle.facts.specs.Flags.{Says, hold}
+use Rattle.facts.specs.Flags.{Says, hold, more, none}
 
 pub record Sound (t : Table) : Type 0 where
   pub counts : counts-ok t ≡ true
@@ -61,15 +59,6 @@ sound t e =
       cooling = s 3;
       racers = s 4;
     }
-
--- one more test that holds
-pub more : {b : Bool} (bs : List Bool) → b ≡ true → every bs ≡ true → every (b ∷ bs) ≡ true
-unfolding every
-more {b} bs p q = and-both b (every bs) p q
-
-pub none : every [] ≡ true
-unfolding every
-none = refl
 
 back : (t : Table) → Sound t → valid t ≡ true
 unfolding valid head-ok records-ok tables-ok
