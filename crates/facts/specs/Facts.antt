@@ -373,6 +373,24 @@ rising-far ws f i (suc j) h l =
     let next : key (entry ws j .hash) < key (entry ws (suc j) .hash) = rw e at (f .each (suc j) l .above (omega arith)) in
     ⊎-elim (λ q. rw q next) (λ k. omega (arith, rising-far ws f i j k (omega arith), next)) (eq-or-lt-of-le (le-of-suc-le-suc h))
 
+-- the total is at least each estimate, and at most as many times the greatest
+pub sum-each : (ws : List ℕ) (n i : ℕ) → i < n → estimate ws i ≤ sum-of ws n
+unfolding sum-of
+sum-each ws zero i h = absurd (not-suc-le-zero h)
+sum-each ws (suc n) i h =
+    ⊎-elim (λ q. rw q (omega arith)) (λ l. omega (arith, sum-each ws n i l)) (eq-or-lt-of-le (le-of-suc-le-suc h))
+
+pub sum-most : (ws : List ℕ) (n : ℕ) → ((i : ℕ) → i < n → estimate ws i ≤ max-estimate) → sum-of ws n ≤ n * max-estimate
+unfolding sum-of
+sum-most ws zero f = omega arith
+sum-most ws (suc n) f = omega (arith, sum-most ws n (λ i l. f i (omega arith)), f n (omega arith))
+
+pub total-each : (ws : List ℕ) → Facts ws → (i : ℕ) → i < count ws → estimate ws i ≤ total ws
+total-each ws f i l = omega (arith, sum-each ws (count ws) i l, f .sums)
+
+pub total-most : (ws : List ℕ) → Facts ws → total ws ≤ count ws * max-estimate
+total-most ws f = omega (arith, sum-most ws (count ws) (λ i l. f .each i l .most), f .sums)
+
 -- `oldest-of` is at most the time of each record of the seat, ..
 pub oldest-each : (ws : List ℕ) (s n i : ℕ) → i < n → owner ws i ≡ s → (0 < oldest-of ws s n) × (oldest-of ws s n ≤ time ws i + 1)
 unfolding oldest-of
