@@ -1,0 +1,8 @@
+//! Calls on the pending window as plain data, independent of any implementation: what is called,
+//! what it answers, what goes and the whole state after it; the seeded generator and the tally.
+
+pub mod data;
+pub mod random;
+pub mod text;
+
+pub use data::*;
