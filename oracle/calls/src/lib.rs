@@ -3,8 +3,10 @@
 
 pub mod compare;
 pub mod data;
+pub mod events;
 pub mod generator;
 pub mod random;
+pub mod tally;
 pub mod text;
 mod world;
 

@@ -182,7 +182,7 @@ impl World {
 
     pub fn body(&self, random: &mut Random, state: &State) -> u64 {
         match self.theme {
-            Theme::LightBodies if random.chance(97) => 0,
+            Theme::LightBodies => random.pick(&[0, 0, 0, 0, 0, 0, 0, 0, 0, 80, 87]),
             Theme::HeavyBodies if random.chance(99) => MAX_BODY,
             Theme::Races => random.pick(&[0, 80, 1_000, 250_000, 250_000, 1_000_000]),
             _ => random.pick(&[0, 79, 1_000_000, 2_359_296, 2_359_304, 250_000, state.ewma_block_bytes, 4_000_000, MAX_BODY]),

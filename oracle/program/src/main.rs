@@ -1,6 +1,8 @@
 //! The oracle's commands; the scripts in oracle/ build and call this program.
 
 use calls::compare;
+use calls::events;
+use calls::tally::{self, Tally};
 use calls::generator::Profile;
 use calls::text;
 use ordered::Original as Ordered;
@@ -21,6 +23,7 @@ fn main() -> ExitCode {
     let all_passed = match options.command.as_str() {
         "record" => record(&options).is_ok(),
         "agree" => agree(&options),
+        "tally" => tally(&options),
         other => {
             eprintln!("unknown command {other}");
             false
@@ -92,4 +95,23 @@ fn agree(options: &Options) -> bool {
             false
         }
     }
+}
+
+/// Counts the events of a run; one check is that no event is at 0 but those documented as unreachable.
+fn tally(options: &Options) -> bool {
+    let mut tally = Tally::default();
+    let sequences = compare::run(&mut Ordered::default(), options.seed, options.profile, options.calls, |before, call, outcome| {
+        events::count(&mut tally, before, call, outcome);
+    });
+    let table = tally.table();
+    for (name, count) in &table {
+        println!("{count:>10}  {name}");
+    }
+    let problems = tally.problems();
+    for problem in &problems {
+        println!("{problem}");
+    }
+    println!("{} calls in {sequences} sequences (seed {}), {} events, {} of them unreachable by EVENTS.md", options.calls, options.seed, table.len(), tally::unreachable().len());
+    println!("{} passed, {} failed", table.len() - problems.len().min(table.len()), problems.len());
+    problems.is_empty()
 }
