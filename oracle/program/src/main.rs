@@ -1,0 +1,117 @@
+//! The oracle's commands; the scripts in oracle/ build and call this program.
+
+use calls::compare;
+use calls::events;
+use calls::tally::{self, Tally};
+use calls::generator::Profile;
+use calls::text;
+use ordered::Original as Ordered;
+use own_maps::Original as OwnMaps;
+use std::env;
+use std::io::{self, BufWriter, Write};
+use std::process::ExitCode;
+
+fn main() -> ExitCode {
+    let arguments: Vec<String> = env::args().skip(1).collect();
+    let options = match Options::parse(&arguments) {
+        Ok(options) => options,
+        Err(problem) => {
+            eprintln!("{problem}");
+            return ExitCode::from(2);
+        }
+    };
+    let all_passed = match options.command.as_str() {
+        "record" => record(&options).is_ok(),
+        "agree" => agree(&options),
+        "tally" => tally(&options),
+        other => {
+            eprintln!("unknown command {other}");
+            false
+        }
+    };
+    if all_passed { ExitCode::SUCCESS } else { ExitCode::FAILURE }
+}
+
+/// COMMAND [CALLS] [SEED] [--length N] [--table N] [--distinct]
+struct Options {
+    command: String,
+    calls: u64,
+    seed: u64,
+    profile: Profile,
+}
+
+impl Options {
+    fn parse(arguments: &[String]) -> Result<Self, String> {
+        let mut plain: Vec<&str> = Vec::new();
+        let mut profile = Profile::default();
+        let mut rest = arguments.iter().map(String::as_str);
+        while let Some(argument) = rest.next() {
+            match argument {
+                "--distinct" => profile.distinct_heights = true,
+                "--length" => profile.mean_length = number(rest.next())?,
+                "--table" => profile.table = number(rest.next())?,
+                _ => plain.push(argument),
+            }
+        }
+        let [command, calls, seed] = plain[..] else {
+            return Err("wanted: COMMAND CALLS SEED [--length N] [--table N] [--distinct]".to_string());
+        };
+        Ok(Self { command: command.to_string(), calls: number(Some(calls))?, seed: number(Some(seed))?, profile })
+    }
+}
+
+fn number(text: Option<&str>) -> Result<u64, String> {
+    let text = text.ok_or("a number is missing")?;
+    text.replace(['_', ','], "").parse().map_err(|_| format!("{text} is not a number"))
+}
+
+fn record(options: &Options) -> io::Result<()> {
+    let mut out = BufWriter::new(io::stdout().lock());
+    let mut written = Ok(());
+    compare::run(&mut Ordered::default(), options.seed, options.profile, options.calls, |_, call, outcome| {
+        if written.is_ok() {
+            written = writeln!(out, "{}", text::line(call, outcome));
+        }
+    });
+    written.and_then(|()| out.flush())
+}
+
+/// The two builds side by side, on distinct heights.
+fn agree(options: &Options) -> bool {
+    let profile = Profile { distinct_heights: true, ..options.profile };
+    let result = compare::first_difference(&mut Ordered::default(), &mut OwnMaps::default(), options.seed, profile, options.calls);
+    match result {
+        Ok(sequences) => {
+            println!("ordered maps and own maps: {} calls in {sequences} sequences (seed {}), equal in answer, gone entries and whole state", options.calls, options.seed);
+            println!("{} passed, 0 failed", options.calls);
+            true
+        }
+        Err(difference) => {
+            println!("call {} differs: {:?}", difference.call_number, difference.call);
+            for (ordered, own_maps) in &difference.tokens {
+                println!("  ordered {ordered}\n  own     {own_maps}");
+            }
+            println!("{} passed, 1 failed", difference.call_number - 1);
+            false
+        }
+    }
+}
+
+/// Counts the events of a run; one check is that no event is at 0 but those documented as unreachable.
+fn tally(options: &Options) -> bool {
+    let mut tally = Tally::default();
+    let sequences = compare::run(&mut Ordered::default(), options.seed, options.profile, options.calls, |before, call, outcome| {
+        events::count(&mut tally, before, call, outcome);
+    });
+    let table = tally.table();
+    for (name, count) in &table {
+        println!("{count:>10}  {name}");
+    }
+    let problems = tally.problems();
+    for problem in &problems {
+        println!("{problem}");
+    }
+    println!("{} calls in {sequences} sequences (seed {}), {} events, {} of them unreachable by EVENTS.md", options.calls, options.seed, table.len(), tally::unreachable().len());
+    println!("{} passed, {} failed", table.len() - problems.len().min(table.len()), problems.len());
+    problems.is_empty()
+}
