@@ -118,7 +118,7 @@ impl Generator {
         match &last.answer {
             Answer::Planned(Some(plan)) if self.random.chance(80) => Some(self.confirm_plan(&last.state, plan)),
             Answer::Decided(Decision::HedgeColdFront { owner, front_hash }) if self.random.chance(75) => {
-                let alternate = if self.random.chance(12) { *owner } else { self.seat(&last.state) };
+                let alternate = if self.random.chance(15) { *owner } else { self.world.other_seat(&mut self.random, *owner) };
                 Some(Call::ConfirmColdFrontHedge { owner: *owner, alternate, hash: *front_hash })
             }
             _ => None,
@@ -163,10 +163,10 @@ impl Generator {
             (Action::Plan, if can_plan { 40 } else { 3 }),
             (Action::ConfirmProbe, if races { 3 } else { 1 }),
             (Action::ConfirmHedge, if matches!(state.cold_front, Some(ColdFront::Waiting { .. })) { 5 } else { 1 }),
-            (Action::Observe, if theme.watches() { 30 } else if watching { 16 } else { 7 }),
-            (Action::Fanout, if theme == Theme::Capacity || state.prefix_probe.is_some() { 8 } else { 2 }),
+            (Action::Observe, if theme.watches() { 30 } else if watching || state.prefix_probe.is_some() { 16 } else { 7 }),
+            (Action::Fanout, if theme == Theme::Capacity || state.prefix_probe.is_some() || (races && state.fanout_engaged) { 8 } else { 2 }),
             (Action::ClearPreferred, if state.preferred_peer.is_some() { 6 } else { 1 }),
-            (Action::Query, if theme == Theme::Capacity { 25 } else { 9 }),
+            (Action::Query, if theme == Theme::Capacity { 25 } else if racing { 12 } else { 9 }),
         ]
     }
 
@@ -192,7 +192,7 @@ impl Generator {
         let top = entries.iter().map(|(_, height)| *height).max().unwrap_or(self.world.base);
         let above = top.saturating_add(1);
         let next_request_height = self.random.pick(&[above, above, above, above, 0, top, state.next_request_height, u32::MAX]);
-        let (byte_headroom, count_headroom) = self.headrooms(state.ewma_block_bytes);
+        let (byte_headroom, count_headroom) = self.headrooms(state);
         Call::MarkRequested { clock: self.clock(state, &[]), owner, entries, next_request_height, byte_headroom, count_headroom }
     }
 
@@ -206,7 +206,7 @@ impl Generator {
             None => self.world.height_of(&mut self.random, hash),
         };
         let staged = self.random.chance(20);
-        let (byte_headroom, count_headroom) = self.headrooms(state.ewma_block_bytes);
+        let (byte_headroom, count_headroom) = self.headrooms(state);
         Call::MarkOwnedFetch { clock: self.clock(state, &[]), owner, hash, height, staged, byte_headroom, count_headroom }
     }
 
@@ -242,6 +242,13 @@ impl Generator {
     }
 
     fn reject(&mut self, state: &State) -> Call {
+        if let Some(ColdFront::Racing { owner, alternate, hash }) = state.cold_front
+            && self.random.chance(60)
+        {
+            let third = self.world.other_seat(&mut self.random, owner);
+            let source = self.random.pick(&[Some(owner), Some(alternate), Some(third), None]);
+            return Call::RejectDelivery { clock: self.clock(state, &[]), hash, source };
+        }
         let hash = self.hash(state);
         let owner = state.pending.iter().find(|entry| entry.hash == hash).map(|entry| entry.owner);
         let source = match self.random.below(10) {
@@ -287,7 +294,12 @@ impl Generator {
             1 => {}
             2..=3 => owns.iter_mut().for_each(|owned| *owned = self.random.chance(60)),
             _ => {
-                let lost = self.seat(state);
+                let mut lost = self.seat(state);
+                if let Some(ColdFront::Racing { owner, alternate, .. }) = state.cold_front
+                    && self.random.chance(60)
+                {
+                    lost = self.random.pick(&[owner, alternate]);
+                }
                 owns[usize::from(lost)] = false;
                 if self.random.chance(20) {
                     owns[usize::from(self.seat(state))] = false;
@@ -300,7 +312,7 @@ impl Generator {
     fn confirm_plan(&mut self, state: &State, plan: &Plan) -> Call {
         let mut hashes = plan.hashes.clone();
         let mut owner = plan.owner;
-        let mut alternates: Vec<Seat> = (0..1 + self.random.below(3)).map(|_| self.world.seat(&mut self.random)).collect();
+        let mut alternates: Vec<Seat> = (0..1 + self.random.below(3)).map(|_| self.world.other_seat(&mut self.random, owner)).collect();
         match self.random.below(14) {
             0 => alternates.clear(),
             1 => alternates = vec![owner],
@@ -331,7 +343,7 @@ impl Generator {
             owner = if self.random.chance(80) { waiting } else { owner };
             hash = if self.random.chance(80) { front } else { hash };
         }
-        let alternate = if self.random.chance(15) { owner } else { self.seat(state) };
+        let alternate = if self.random.chance(15) { owner } else { self.world.other_seat(&mut self.random, owner) };
         Call::ConfirmColdFrontHedge { owner, alternate, hash }
     }
 
@@ -342,9 +354,11 @@ impl Generator {
         let stuck = state.apply_side_stuck;
         let next_apply_height = match self.random.below(20) {
             0 => None,
-            1..=2 => self.random.maybe(&heights),
-            3 => Some(self.world.base.saturating_sub(1)),
-            4..=5 => Some(stuck.map_or(lowest, |stuck| stuck.height)),
+            1..=3 => self.random.maybe(&heights),
+            _ if matches!(state.cold_front, Some(ColdFront::Waiting { .. })) => self.waiting_height(state).or(Some(lowest)),
+            6..=9 if state.prefix_probe.is_some() => late_probed_height(state).or(Some(lowest)),
+            4 => Some(self.world.base.saturating_sub(1)),
+            5 => Some(stuck.map_or(lowest, |stuck| stuck.height)),
             _ => Some(lowest),
         };
         let frontier_hash = match self.random.below(10) {
@@ -362,16 +376,31 @@ impl Generator {
         Call::ObserveBlocked { clock, next_apply_height, frontier_hash, busy, staged_count, staged_height }
     }
 
+    /// The height that a waiting cold front waits at.
+    fn waiting_height(&self, state: &State) -> Option<u32> {
+        let Some(ColdFront::Waiting { hash, .. }) = state.cold_front else {
+            return None;
+        };
+        state.pending.iter().find(|entry| entry.hash == hash).map(|entry| entry.height)
+    }
+
     fn fanout(&mut self, state: &State) -> Call {
         let least = state.settings.min_peers_for_fanout;
-        let count = self.random.pick(&[0, 1, 5, least, least, least + 1, least.saturating_sub(1), least.saturating_sub(2), u64::MAX]);
+        let shut_out = self.world.theme == Theme::Races && state.prefix_probe.is_none();
+        let count = if shut_out { 0 } else { self.random.pick(&[0, 1, 5, least, least, least + 1, least.saturating_sub(1), least.saturating_sub(2), u64::MAX]) };
         let deadlines: Vec<Clock> = state.prefix_probe.iter().map(|probe| probe.started_at.saturating_add(state.settings.stall_timeout_initial)).collect();
         Call::SetFanoutEligiblePeers { clock: self.clock(state, &deadlines), count }
     }
 
     fn query(&mut self, state: &State) -> Call {
         let (source, hash) = (self.seat(state), self.hash(state));
-        let (byte_headroom, count_headroom) = self.headrooms(state.ewma_block_bytes);
+        let (byte_headroom, count_headroom) = self.headrooms(state);
+        if state.prefix_probe.is_some() && self.random.chance(40) {
+            return if self.random.chance(80) { Call::ProbeOffered { source, hash } } else { Call::ProbeStartedAt };
+        }
+        if state.cold_front.is_some() && self.random.chance(40) {
+            return Call::HedgeOffered { source, hash };
+        }
         match self.random.below(32) {
             0 => Call::FanoutActive,
             1 => Call::PendingLen,
@@ -475,9 +504,11 @@ impl Generator {
 
     /// Prefix races need one owner; otherwise any seat asks.
     fn seat_for_request(&mut self, state: &State) -> Seat {
-        let lonely = self.world.theme == Theme::Races && state.prefix_probe.is_none() && self.random.chance(85);
-        match state.pending.first() {
-            Some(entry) if lonely => entry.owner,
+        let races = self.world.theme == Theme::Races;
+        match (&state.prefix_probe, state.pending.first()) {
+            (None, Some(entry)) if races && self.random.chance(85) => entry.owner,
+            (Some(probe), _) if self.random.chance(60) => self.random.pick(&probe.racers).0,
+            (Some(probe), _) => self.world.other_seat(&mut self.random, probe.owner),
             _ => self.seat(state),
         }
     }
@@ -490,9 +521,13 @@ impl Generator {
         }
     }
 
-    fn headrooms(&mut self, mean: u64) -> (u64, u64) {
-        let bytes = self.random.pick(&[u64::MAX, u64::MAX, MAX_BYTE_LIMIT, mean, mean + 1, mean - 1, 0]);
-        let count = self.random.pick(&[u64::MAX, u64::MAX, 16, 3, 1, 0]);
+    /// Mostly enough; else around the mean and around what the settings leave.
+    fn headrooms(&mut self, state: &State) -> (u64, u64) {
+        let mean = state.ewma_block_bytes;
+        let byte_room = state.settings.max_pending_bytes.saturating_sub(state.pending_bytes);
+        let room = state.settings.max_pending_blocks.saturating_sub(state.pending.len() as u64);
+        let bytes = self.random.pick(&[u64::MAX, u64::MAX, MAX_BYTE_LIMIT, mean, mean + 1, mean - 1, 0, byte_room]);
+        let count = self.random.pick(&[u64::MAX, u64::MAX, 16, 3, 1, 0, room]);
         (bytes, count)
     }
 
@@ -524,6 +559,12 @@ impl Generator {
             _ => time,
         })
     }
+}
+
+/// A front past the four that decide a race, so that a hedge may still race when the probe is won.
+fn late_probed_height(state: &State) -> Option<u32> {
+    let late = state.prefix_probe.as_ref()?.hashes.get(4..)?;
+    state.pending.iter().find(|entry| late.contains(&entry.hash)).map(|entry| entry.height)
 }
 
 fn owner_timeout(state: &State) -> u64 {
