@@ -1,5 +1,7 @@
 //! The oracle's commands; the scripts in oracle/ build and call this program.
 
+mod figures;
+
 use calls::compare;
 use calls::events;
 use calls::tally::{self, Tally};
@@ -24,6 +26,11 @@ fn main() -> ExitCode {
         "record" => record(&options).is_ok(),
         "agree" => agree(&options),
         "tally" => tally(&options),
+        "figures" => {
+            let (held, failed) = figures::run();
+            println!("{held} passed, {failed} failed");
+            failed == 0
+        }
         other => {
             eprintln!("unknown command {other}");
             false
