@@ -1,6 +1,7 @@
 //! The oracle's commands; the scripts in oracle/ build and call this program.
 
 mod figures;
+mod mutants;
 
 use calls::compare;
 use calls::events;
@@ -11,6 +12,7 @@ use ordered::Original as Ordered;
 use own_maps::Original as OwnMaps;
 use std::env;
 use std::io::{self, BufWriter, Write};
+use std::path::PathBuf;
 use std::process::ExitCode;
 
 fn main() -> ExitCode {
@@ -31,6 +33,7 @@ fn main() -> ExitCode {
             println!("{held} passed, {failed} failed");
             failed == 0
         }
+        "mutants" => try_mutants(&options),
         other => {
             eprintln!("unknown command {other}");
             false
@@ -39,31 +42,35 @@ fn main() -> ExitCode {
     if all_passed { ExitCode::SUCCESS } else { ExitCode::FAILURE }
 }
 
-/// COMMAND [CALLS] [SEED] [--length N] [--table N] [--distinct]
+/// COMMAND CALLS SEED [--length N] [--table N] [--distinct] [--only TEXT]
 struct Options {
     command: String,
     calls: u64,
     seed: u64,
     profile: Profile,
+    /// Mutants whose line contains this.
+    only: String,
 }
 
 impl Options {
     fn parse(arguments: &[String]) -> Result<Self, String> {
         let mut plain: Vec<&str> = Vec::new();
         let mut profile = Profile::default();
+        let mut only = String::new();
         let mut rest = arguments.iter().map(String::as_str);
         while let Some(argument) = rest.next() {
             match argument {
                 "--distinct" => profile.distinct_heights = true,
                 "--length" => profile.mean_length = number(rest.next())?,
                 "--table" => profile.table = number(rest.next())?,
+                "--only" => only = rest.next().unwrap_or("").to_string(),
                 _ => plain.push(argument),
             }
         }
         let [command, calls, seed] = plain[..] else {
-            return Err("wanted: COMMAND CALLS SEED [--length N] [--table N] [--distinct]".to_string());
+            return Err("wanted: COMMAND CALLS SEED [--length N] [--table N] [--distinct] [--only TEXT]".to_string());
         };
-        Ok(Self { command: command.to_string(), calls: number(Some(calls))?, seed: number(Some(seed))?, profile })
+        Ok(Self { command: command.to_string(), calls: number(Some(calls))?, seed: number(Some(seed))?, profile, only })
     }
 }
 
@@ -121,4 +128,13 @@ fn tally(options: &Options) -> bool {
     println!("{} calls in {sequences} sequences (seed {}), {} events, {} of them unreachable by EVENTS.md", options.calls, options.seed, table.len(), tally::unreachable().len());
     println!("{} passed, {} failed", table.len() - problems.len().min(table.len()), problems.len());
     problems.is_empty()
+}
+
+/// The script tells where source, build and oracle/ are.
+fn try_mutants(options: &Options) -> bool {
+    let place = |name: &str| env::var(name).map(PathBuf::from).unwrap_or_else(|_| panic!("{name} is not set: run oracle/mutants"));
+    let places = mutants::Places { source: place("KOFUDILE_SOURCE"), target: place("ORACLE_TARGET"), here: place("ORACLE_HERE") };
+    let (passed, failed) = mutants::run(&places, options.calls, options.seed, &options.only);
+    println!("{passed} passed, {failed} failed");
+    failed == 0
 }
