@@ -40,6 +40,11 @@ impl Tally {
         *self.counts.entry((name, side)).or_insert(0) += 1;
     }
 
+    /// The names of the events that came.
+    pub fn happened(&self) -> BTreeSet<String> {
+        self.by_name().into_keys().collect()
+    }
+
     /// Every listed event with its count, in the list's order.
     pub fn table(&self) -> Vec<(String, u64)> {
         let counts = self.by_name();
