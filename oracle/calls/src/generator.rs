@@ -141,32 +141,35 @@ impl Generator {
     fn weights(&self, state: &State) -> [(Action, u64); 19] {
         let theme = self.world.theme;
         let pending = state.pending.len() as u64;
-        let racing = state.prefix_probe.is_some() || matches!(state.cold_front, Some(ColdFront::Racing { .. }));
-        let watching = state.stall.is_some() || state.cold_front.is_some() || state.pending_timeout_observation.is_some();
-        let want_entries = if pending == 0 { 40 } else if pending < self.world.table { 14 } else { 1 };
+        let probe = state.prefix_probe.is_some();
+        let racing = probe || matches!(state.cold_front, Some(ColdFront::Racing { .. }));
+        let waiting = matches!(state.cold_front, Some(ColdFront::Waiting { .. }));
+        let observed = state.pending_timeout_observation.is_some();
+        let watched = state.stall.is_some() || state.cold_front.is_some() || observed || probe;
         let bodies = theme == Theme::LightBodies || theme == Theme::HeavyBodies;
         let races = theme == Theme::Races;
-        let can_plan = races && state.preferred_peer.is_none() && state.prefix_probe.is_none() && pending >= 4;
+        let can_plan = races && state.preferred_peer.is_none() && !probe && pending >= 4;
+        let fanout = theme == Theme::Capacity || probe || (races && state.fanout_engaged);
         [
-            (Action::Request, want_entries),
+            (Action::Request, when(pending == 0, 40, when(pending < self.world.table, 14, 1))),
             (Action::OwnedFetch, 5),
-            (Action::Deliver, if bodies { 150 } else if racing { 30 } else { 14 }),
-            (Action::Credit, if racing { 16 } else { 4 }),
-            (Action::Duplicate, if state.pending_timeout_observation.is_some() { 6 } else { 1 }),
+            (Action::Deliver, when(bodies, 150, when(racing, 30, 14))),
+            (Action::Credit, when(racing, 16, 4)),
+            (Action::Duplicate, when(observed, 6, 1)),
             (Action::Reject, 5),
-            (Action::Sweep, if theme == Theme::TimeOuts { 14 } else { 4 }),
+            (Action::Sweep, when(theme == Theme::TimeOuts, 14, 4)),
             (Action::Retry, 4),
             (Action::Release, 3),
             (Action::Retire, 2),
-            (Action::Retain, if racing { 5 } else { 3 }),
+            (Action::Retain, when(racing, 5, 3)),
             (Action::Unresponsive, 3),
-            (Action::Plan, if can_plan { 40 } else { 3 }),
-            (Action::ConfirmProbe, if races { 3 } else { 1 }),
-            (Action::ConfirmHedge, if matches!(state.cold_front, Some(ColdFront::Waiting { .. })) { 5 } else { 1 }),
-            (Action::Observe, if theme.watches() { 30 } else if watching || state.prefix_probe.is_some() { 16 } else { 7 }),
-            (Action::Fanout, if theme == Theme::Capacity || state.prefix_probe.is_some() || (races && state.fanout_engaged) { 8 } else { 2 }),
-            (Action::ClearPreferred, if state.preferred_peer.is_some() { 6 } else { 1 }),
-            (Action::Query, if theme == Theme::Capacity { 25 } else if racing { 12 } else { 9 }),
+            (Action::Plan, when(can_plan, 40, 3)),
+            (Action::ConfirmProbe, when(races, 3, 1)),
+            (Action::ConfirmHedge, when(waiting, 5, 1)),
+            (Action::Observe, when(theme.watches(), 30, when(watched, 16, 7))),
+            (Action::Fanout, when(fanout, 8, 2)),
+            (Action::ClearPreferred, when(state.preferred_peer.is_some(), 6, 1)),
+            (Action::Query, when(theme == Theme::Capacity, 25, when(racing, 12, 9))),
         ]
     }
 
@@ -312,7 +315,8 @@ impl Generator {
     fn confirm_plan(&mut self, state: &State, plan: &Plan) -> Call {
         let mut hashes = plan.hashes.clone();
         let mut owner = plan.owner;
-        let mut alternates: Vec<Seat> = (0..1 + self.random.below(3)).map(|_| self.world.other_seat(&mut self.random, owner)).collect();
+        let mut alternates: Vec<Seat> =
+            (0..1 + self.random.below(3)).map(|_| self.world.other_seat(&mut self.random, owner)).collect();
         match self.random.below(14) {
             0 => alternates.clear(),
             1 => alternates = vec![owner],
@@ -371,7 +375,15 @@ impl Generator {
         let half = state.settings.max_received_blocks / 2;
         let staged_count = self.random.pick(&[half, half, half + 1, half.saturating_sub(1), 0, MAX_COUNT, u64::MAX]);
         let above = lowest.saturating_add(1);
-        let staged_height = self.random.pick(&[Some(above), Some(above), Some(above), Some(u32::MAX), Some(lowest), Some(lowest.saturating_sub(1)), None]);
+        let staged_height = self.random.pick(&[
+            Some(above),
+            Some(above),
+            Some(above),
+            Some(u32::MAX),
+            Some(lowest),
+            Some(lowest.saturating_sub(1)),
+            None,
+        ]);
         let clock = self.clock(state, &watch_deadlines(state));
         Call::ObserveBlocked { clock, next_apply_height, frontier_hash, busy, staged_count, staged_height }
     }
@@ -387,8 +399,16 @@ impl Generator {
     fn fanout(&mut self, state: &State) -> Call {
         let least = state.settings.min_peers_for_fanout;
         let shut_out = self.world.theme == Theme::Races && state.prefix_probe.is_none();
-        let count = if shut_out { 0 } else { self.random.pick(&[0, 1, 5, least, least, least + 1, least.saturating_sub(1), least.saturating_sub(2), u64::MAX]) };
-        let deadlines: Vec<Clock> = state.prefix_probe.iter().map(|probe| probe.started_at.saturating_add(state.settings.stall_timeout_initial)).collect();
+        let count = if shut_out {
+            0
+        } else {
+            self.random.pick(&[0, 1, 5, least, least, least + 1, least.saturating_sub(1), least.saturating_sub(2), u64::MAX])
+        };
+        let deadlines: Vec<Clock> = state
+            .prefix_probe
+            .iter()
+            .map(|probe| probe.started_at.saturating_add(state.settings.stall_timeout_initial))
+            .collect();
         Call::SetFanoutEligiblePeers { clock: self.clock(state, &deadlines), count }
     }
 
@@ -468,10 +488,17 @@ impl Generator {
             6..=16 => leader,
             _ => random,
         };
-        let missing: Vec<Hash> = (0..probe.hashes.len()).filter(|index| progress >> index & 1 == 0).map(|index| probe.hashes[index]).collect();
+        let missing: Vec<Hash> =
+            (0..probe.hashes.len()).filter(|index| progress >> index & 1 == 0).map(|index| probe.hashes[index]).collect();
         let among = if self.random.chance(85) { &missing[..missing.len().min(4)] } else { &probe.hashes[..] };
         let hash = self.random.maybe(among).unwrap_or(probe.hashes[0]);
-        let source = if self.random.chance(4) { None } else if self.random.chance(5) { Some(self.world.seat(&mut self.random)) } else { Some(seat) };
+        let source = if self.random.chance(4) {
+            None
+        } else if self.random.chance(5) {
+            Some(self.world.seat(&mut self.random))
+        } else {
+            Some(seat)
+        };
         (hash, source)
     }
 
@@ -534,13 +561,17 @@ impl Generator {
     /// Mostly a moment that some comparison turns on, or next to it; never before the last one.
     fn clock(&mut self, state: &State, own_deadlines: &[Clock]) -> Clock {
         let last = state.last_clock;
-        let ahead = |times: &[Clock]| -> Vec<Clock> { times.iter().copied().filter(|time| *time >= last && *time <= MAX_CLOCK).collect() };
+        let ahead = |times: &[Clock]| -> Vec<Clock> {
+            times.iter().copied().filter(|time| *time >= last && *time <= MAX_CLOCK).collect()
+        };
         let own = ahead(own_deadlines);
         let times = if own.is_empty() || self.random.chance(15) { ahead(&all_deadlines(state)) } else { own };
         let chosen = match self.random.below(100) {
             0..=29 => last,
             30..=69 => self.near_deadline(&times).unwrap_or(last),
-            70..=89 => last + self.random.pick(&[1, 2, 1_000_000, 49_999_999, 50_000_000, 300_000_000, 1_000_000_000, 2_000_000_000]),
+            70..=89 => {
+                last + self.random.pick(&[1, 2, 1_000_000, 49_999_999, 50_000_000, 300_000_000, 1_000_000_000, 2_000_000_000])
+            }
             90..=97 => last + self.random.below(20_000_000_000),
             98 => last.saturating_add(self.random.below(4 * MAX_DURATION)),
             _ if self.world.theme == Theme::LastMoments => MAX_CLOCK,
@@ -559,6 +590,10 @@ impl Generator {
             _ => time,
         })
     }
+}
+
+fn when(condition: bool, then: u64, otherwise: u64) -> u64 {
+    if condition { then } else { otherwise }
 }
 
 /// A front past the four that decide a race, so that a hedge may still race when the probe is won.

@@ -45,7 +45,13 @@ pub fn covering(window: &mut dyn Window, seed: u64, profile: Profile, calls: u64
 }
 
 /// Drives the window through all sequences and shows the chosen ones, each after the chosen one before.
-pub fn run(window: &mut dyn Window, seed: u64, profile: Profile, chosen: &BTreeSet<u64>, mut each: impl FnMut(Option<&Outcome>, &Call, &Outcome)) {
+pub fn run(
+    window: &mut dyn Window,
+    seed: u64,
+    profile: Profile,
+    chosen: &BTreeSet<u64>,
+    mut each: impl FnMut(Option<&Outcome>, &Call, &Outcome),
+) {
     let mut number = 0;
     let mut last: Option<Outcome> = None;
     compare::run(window, seed, profile, POOL, |_, call, outcome| {

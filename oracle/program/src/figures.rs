@@ -30,7 +30,14 @@ impl Desk {
 
     fn request(&mut self, clock: Clock, owner: Seat, heights: std::ops::Range<u32>) {
         let entries = heights.map(|height| (hash(height), height)).collect();
-        self.call(Call::MarkRequested { clock, owner, entries, next_request_height: 0, byte_headroom: u64::MAX, count_headroom: u64::MAX });
+        self.call(Call::MarkRequested {
+            clock,
+            owner,
+            entries,
+            next_request_height: 0,
+            byte_headroom: u64::MAX,
+            count_headroom: u64::MAX,
+        });
     }
 
     fn deliver(&mut self, clock: Clock, height: u32, bytes: u64, source: Seat) {
@@ -52,7 +59,14 @@ impl Desk {
     }
 
     fn observe(&mut self, clock: Clock, next: u32) -> Decision {
-        let call = Call::ObserveBlocked { clock, next_apply_height: Some(next), frontier_hash: None, busy: false, staged_count: MAX_COUNT, staged_height: Some(u32::MAX) };
+        let call = Call::ObserveBlocked {
+            clock,
+            next_apply_height: Some(next),
+            frontier_hash: None,
+            busy: false,
+            staged_count: MAX_COUNT,
+            staged_height: Some(u32::MAX),
+        };
         match self.call(call) {
             Answer::Decided(decision) => *decision,
             other => panic!("{other:?} is no decision"),
@@ -69,7 +83,12 @@ impl Desk {
     fn start_probe(&mut self, alternate: Seat) -> Plan {
         let plan = self.planned().expect("a plan was set up");
         let clock = self.state.last_clock;
-        self.call(Call::ConfirmPrefixProbe { clock, owner: plan.owner, hashes: plan.hashes.clone(), alternates: vec![alternate] });
+        self.call(Call::ConfirmPrefixProbe {
+            clock,
+            owner: plan.owner,
+            hashes: plan.hashes.clone(),
+            alternates: vec![alternate],
+        });
         plan
     }
 }
@@ -230,14 +249,29 @@ fn fresh_window() -> bool {
 
 fn empty_request() -> bool {
     let mut desk = Desk::open(usual());
-    desk.call(Call::MarkRequested { clock: 3, owner: 3, entries: vec![], next_request_height: 9, byte_headroom: 0, count_headroom: 0 });
+    desk.call(Call::MarkRequested {
+        clock: 3,
+        owner: 3,
+        entries: vec![],
+        next_request_height: 9,
+        byte_headroom: 0,
+        count_headroom: 0,
+    });
     desk.state.owner_downloading_since.is_empty() && desk.state.next_request_height == 9
 }
 
 fn full_window() -> bool {
     let mut desk = Desk::open(usual());
     desk.request(0, 3, 0..256);
-    let fetch = Call::MarkOwnedFetch { clock: 0, owner: 4, hash: hash(999), height: 999, staged: false, byte_headroom: u64::MAX, count_headroom: u64::MAX };
+    let fetch = Call::MarkOwnedFetch {
+        clock: 0,
+        owner: 4,
+        hash: hash(999),
+        height: 999,
+        staged: false,
+        byte_headroom: u64::MAX,
+        count_headroom: u64::MAX,
+    };
     *desk.call(fetch) == Answer::Owned(OwnedFetch::NoCapacity) && desk.state.pending.len() == 256
 }
 
@@ -250,16 +284,26 @@ fn blame_at_once() -> bool {
 fn no_hedge_at_once() -> bool {
     let mut desk = Desk::open(Settings { stall_timeout_initial: 0, ..usual() });
     desk.request(0, 3, 0..1);
-    let look = Call::ObserveBlocked { clock: 0, next_apply_height: Some(0), frontier_hash: None, busy: false, staged_count: 0, staged_height: None };
+    let look = Call::ObserveBlocked {
+        clock: 0,
+        next_apply_height: Some(0),
+        frontier_hash: None,
+        busy: false,
+        staged_count: 0,
+        staged_height: None,
+    };
     let first = desk.call(look.clone()).clone();
-    first == Answer::Decided(Decision::None) && *desk.call(look) == Answer::Decided(Decision::HedgeColdFront { owner: 3, front_hash: hash(0) })
+    first == Answer::Decided(Decision::None)
+        && *desk.call(look) == Answer::Decided(Decision::HedgeColdFront { owner: 3, front_hash: hash(0) })
 }
 
 fn foreign_rejection() -> bool {
     let mut desk = Desk::open(usual());
     desk.request(0, 3, 0..1);
     [Some(4), None].iter().all(|source| {
-        *desk.call(Call::RejectDelivery { clock: 0, hash: hash(0), source: *source }) == Answer::Rejected(Rejection::DiscardedUnsolicited) && desk.gone.is_empty()
+        *desk.call(Call::RejectDelivery { clock: 0, hash: hash(0), source: *source })
+            == Answer::Rejected(Rejection::DiscardedUnsolicited)
+            && desk.gone.is_empty()
     })
 }
 
@@ -351,7 +395,14 @@ fn last_height() -> bool {
 
 fn retry_without_entry() -> bool {
     let mut desk = Desk::open(usual());
-    desk.call(Call::MarkRequested { clock: 0, owner: 3, entries: vec![], next_request_height: 50, byte_headroom: 0, count_headroom: 0 });
+    desk.call(Call::MarkRequested {
+        clock: 0,
+        owner: 3,
+        entries: vec![],
+        next_request_height: 50,
+        byte_headroom: 0,
+        count_headroom: 0,
+    });
     desk.call(Call::RequeueForRetry { clock: 0, hash: hash(0), height: Some(20) });
     desk.state.next_request_height == 20
 }
@@ -359,7 +410,14 @@ fn retry_without_entry() -> bool {
 fn no_next_height() -> bool {
     let mut desk = Desk::open(usual());
     desk.request(0, 3, 0..1);
-    let look = |next: Option<u32>, frontier: Option<Hash>, busy: bool| Call::ObserveBlocked { clock: 0, next_apply_height: next, frontier_hash: frontier, busy, staged_count: 8, staged_height: Some(1) };
+    let look = |next: Option<u32>, frontier: Option<Hash>, busy: bool| Call::ObserveBlocked {
+        clock: 0,
+        next_apply_height: next,
+        frontier_hash: frontier,
+        busy,
+        staged_count: 8,
+        staged_height: Some(1),
+    };
     desk.call(look(Some(0), Some(hash(0)), true));
     desk.call(look(Some(0), Some(hash(0)), false));
     let before = desk.state.clone();

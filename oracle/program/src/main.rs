@@ -5,9 +5,9 @@ mod mutants;
 
 use calls::compare;
 use calls::events;
-use calls::tally::{self, Tally};
 use calls::generator::Profile;
 use calls::select;
+use calls::tally::{self, Tally};
 use calls::text;
 use calls::{Call, Outcome};
 use ordered::Original as Ordered;
@@ -118,10 +118,14 @@ fn record(options: &Options) -> io::Result<()> {
 /// The two builds side by side, on distinct heights.
 fn agree(options: &Options) -> bool {
     let profile = Profile { distinct_heights: true, ..options.profile };
-    let result = compare::first_difference(&mut Ordered::default(), &mut OwnMaps::default(), options.seed, profile, options.calls);
+    let result =
+        compare::first_difference(&mut Ordered::default(), &mut OwnMaps::default(), options.seed, profile, options.calls);
     match result {
         Ok(sequences) => {
-            println!("ordered maps and own maps: {} calls in {sequences} sequences (seed {}), equal in answer, gone entries and whole state", options.calls, options.seed);
+            println!(
+                "ordered maps and own maps: {} calls in {sequences} sequences (seed {}), equal in answer, gone entries and whole state",
+                options.calls, options.seed
+            );
             println!("{} passed, 0 failed", options.calls);
             true
         }
@@ -148,14 +152,20 @@ fn tally(options: &Options) -> bool {
     for problem in &problems {
         println!("{problem}");
     }
-    println!("{calls} calls in {sequences} sequences (seed {}), {} events, {} of them unreachable by EVENTS.md", options.seed, table.len(), tally::unreachable().len());
+    println!(
+        "{calls} calls in {sequences} sequences (seed {}), {} events, {} of them unreachable by EVENTS.md",
+        options.seed,
+        table.len(),
+        tally::unreachable().len()
+    );
     println!("{} passed, {} failed", table.len() - problems.len().min(table.len()), problems.len());
     problems.is_empty()
 }
 
 /// The script tells where source, build and oracle/ are.
 fn try_mutants(options: &Options) -> bool {
-    let place = |name: &str| env::var(name).map(PathBuf::from).unwrap_or_else(|_| panic!("{name} is not set: run oracle/mutants"));
+    let place =
+        |name: &str| env::var(name).map(PathBuf::from).unwrap_or_else(|_| panic!("{name} is not set: run oracle/mutants"));
     let places = mutants::Places { source: place("KOFUDILE_SOURCE"), target: place("ORACLE_TARGET"), here: place("ORACLE_HERE") };
     let (passed, failed) = mutants::run(&places, options.calls, options.seed, &options.only);
     println!("{passed} passed, {failed} failed");

@@ -57,7 +57,11 @@ pub fn run(places: &Places, calls: u64, seed: u64, only: &str) -> (usize, usize)
         failed = number + 1 - noticed - listed;
         println!("{:>3} {} #{} `{}` -> `{}`: {text}", number + 1, mutant.function, mutant.occurrence, mutant.old, mutant.new);
     }
-    println!("{} mistakes: {noticed} noticed, {listed} listed as changing nothing by calls, {failed} others; {} s", mutants.len(), begin.elapsed().as_secs());
+    println!(
+        "{} mistakes: {noticed} noticed, {listed} listed as changing nothing by calls, {failed} others; {} s",
+        mutants.len(),
+        begin.elapsed().as_secs()
+    );
     (noticed + listed, failed)
 }
 
@@ -66,7 +70,13 @@ fn parse(line: &'static str) -> Mutant {
     let [function, occurrence, old, new] = fields[..4] else {
         panic!("a mutant's line has four or five fields: {line}");
     };
-    Mutant { function, occurrence: occurrence.parse().expect("an occurrence is a number"), old, new, unnoticeable: fields.get(4).copied() }
+    Mutant {
+        function,
+        occurrence: occurrence.parse().expect("an occurrence is a number"),
+        old,
+        new,
+        unnoticeable: fields.get(4).copied(),
+    }
 }
 
 fn try_mutant(places: &Places, mutant: &Mutant, calls: u64, seed: u64) -> Verdict {
