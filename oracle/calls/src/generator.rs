@@ -153,8 +153,8 @@ impl Generator {
         [
             (Action::Request, when(pending == 0, 40, when(pending < self.world.table, 14, 1))),
             (Action::OwnedFetch, 5),
-            (Action::Deliver, when(bodies, 150, when(racing, 30, 14))),
-            (Action::Credit, when(racing, 16, 4)),
+            (Action::Deliver, when(bodies, 150, when(racing, 45, 14))),
+            (Action::Credit, when(racing, 20, 4)),
             (Action::Duplicate, when(observed, 6, 1)),
             (Action::Reject, 5),
             (Action::Sweep, when(theme == Theme::TimeOuts, 14, 4)),
@@ -167,7 +167,7 @@ impl Generator {
             (Action::ConfirmProbe, when(races, 3, 1)),
             (Action::ConfirmHedge, when(waiting, 5, 1)),
             (Action::Observe, when(theme.watches(), 30, when(watched, 16, 7))),
-            (Action::Fanout, when(fanout, 8, 2)),
+            (Action::Fanout, when(fanout, 6, 2)),
             (Action::ClearPreferred, when(state.preferred_peer.is_some(), 6, 1)),
             (Action::Query, when(theme == Theme::Capacity, 25, when(racing, 12, 9))),
         ]
@@ -194,7 +194,9 @@ impl Generator {
         }
         let top = entries.iter().map(|(_, height)| *height).max().unwrap_or(self.world.base);
         let above = top.saturating_add(1);
-        let next_request_height = self.random.pick(&[above, above, above, above, 0, top, state.next_request_height, u32::MAX]);
+        let bottom = entries.iter().map(|(_, height)| *height).min().unwrap_or(self.world.base);
+        let frontier = state.next_request_height;
+        let next_request_height = self.random.pick(&[above, above, above, above, 0, top, bottom, bottom, frontier, u32::MAX]);
         let (byte_headroom, count_headroom) = self.headrooms(state);
         Call::MarkRequested { clock: self.clock(state, &[]), owner, entries, next_request_height, byte_headroom, count_headroom }
     }
@@ -360,7 +362,7 @@ impl Generator {
             0 => None,
             1..=3 => self.random.maybe(&heights),
             _ if matches!(state.cold_front, Some(ColdFront::Waiting { .. })) => self.waiting_height(state).or(Some(lowest)),
-            6..=9 if state.prefix_probe.is_some() => late_probed_height(state).or(Some(lowest)),
+            6..=16 if state.prefix_probe.is_some() => late_probed_height(state).or(Some(lowest)),
             4 => Some(self.world.base.saturating_sub(1)),
             5 => Some(stuck.map_or(lowest, |stuck| stuck.height)),
             _ => Some(lowest),
@@ -458,7 +460,7 @@ impl Generator {
     /// A body's hash and sender: of a race if there is one, else mostly of a pending entry.
     fn delivery(&mut self, state: &State) -> (Hash, Option<Seat>) {
         if let Some(ColdFront::Racing { owner, alternate, hash }) = state.cold_front
-            && self.random.chance(45)
+            && self.random.chance(when(state.prefix_probe.is_some(), 12, 45))
         {
             let other = self.seat(state);
             return (hash, self.random.pick(&[Some(owner), Some(alternate), Some(alternate), Some(other), None]));

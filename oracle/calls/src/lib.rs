@@ -7,6 +7,7 @@ pub mod events;
 pub mod generator;
 pub mod random;
 pub mod select;
+pub mod sound;
 pub mod tally;
 pub mod text;
 mod world;

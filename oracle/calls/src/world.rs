@@ -132,7 +132,7 @@ impl World {
     pub fn batch(&self, random: &mut Random, room: usize) -> usize {
         let most = match self.theme {
             Theme::FullTable => random.pick(&[1, 16, 60, 200, 256]),
-            Theme::Races => random.pick(&[1, 4, 5, 8, 9, 10]),
+            Theme::Races => random.pick(&[0, 1, 4, 4, 5, 8, 9, 10]),
             _ => random.pick(&[0, 1, 1, 2, 3, 4, 5, 8, 12]),
         };
         let table_room = (self.table as usize).max(4);

@@ -7,6 +7,7 @@ use calls::compare;
 use calls::events;
 use calls::generator::Profile;
 use calls::select;
+use calls::sound;
 use calls::tally::{self, Tally};
 use calls::text;
 use calls::{Call, Outcome};
@@ -30,6 +31,7 @@ fn main() -> ExitCode {
         "record" => record(&options).is_ok(),
         "agree" => agree(&options),
         "tally" => tally(&options),
+        "sound" => sound(&options),
         "figures" => {
             let (held, failed) = figures::run();
             println!("{held} passed, {failed} failed");
@@ -169,5 +171,20 @@ fn try_mutants(options: &Options) -> bool {
     let places = mutants::Places { source: place("KOFUDILE_SOURCE"), target: place("ORACLE_TARGET"), here: place("ORACLE_HERE") };
     let (passed, failed) = mutants::run(&places, options.calls, options.seed, &options.only);
     println!("{passed} passed, {failed} failed");
+    failed == 0
+}
+
+/// Every state the original reaches keeps 01's rules of what counts as a window.
+fn sound(options: &Options) -> bool {
+    let mut failed = 0;
+    let (calls, sequences) = drive(options, |_, call, outcome| {
+        let broken = sound::broken_rules(&outcome.state);
+        if !broken.is_empty() {
+            failed += 1;
+            println!("{broken:?} after {call:?}");
+        }
+    });
+    println!("{calls} states in {sequences} sequences (seed {}) held against 01's rules of a window", options.seed);
+    println!("{} passed, {failed} failed", calls - failed);
     failed == 0
 }
