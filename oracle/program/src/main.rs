@@ -174,17 +174,20 @@ fn try_mutants(options: &Options) -> bool {
     failed == 0
 }
 
-/// Every state the original reaches keeps 01's rules of what counts as a window.
+/// Every state the original reaches keeps 01's rules of what counts as a window, and can be loaded into a fresh one.
 fn sound(options: &Options) -> bool {
     let mut failed = 0;
     let (calls, sequences) = drive(options, |_, call, outcome| {
-        let broken = sound::broken_rules(&outcome.state);
+        let mut broken = sound::broken_rules(&outcome.state);
+        if *Ordered::loaded(&outcome.state).state() != outcome.state {
+            broken.push("loads as it was");
+        }
         if !broken.is_empty() {
             failed += 1;
             println!("{broken:?} after {call:?}");
         }
     });
-    println!("{calls} states in {sequences} sequences (seed {}) held against 01's rules of a window", options.seed);
+    println!("{calls} states in {sequences} sequences (seed {}) held against 01's rules of a window, and loaded", options.seed);
     println!("{} passed, {failed} failed", calls - failed);
     failed == 0
 }
