@@ -152,6 +152,7 @@ const FIGURES: &[Figure] = &[
     ("a retry that names a height lowers the frontier to it, entry or none", retry_without_entry),
     ("without a next height the stuck, cold front and stall records stay", no_next_height),
     ("a hedge won by an alternate that is the owner lets the owner's entries go", alternate_is_owner),
+    ("should memory hold two racers that have won, the lower seat wins", two_winners),
 ];
 
 /// Prints one line a figure; returns how many held and how many did not.
@@ -434,4 +435,16 @@ fn alternate_is_owner() -> bool {
     desk.deliver(0, 0, 262_144, 3);
     let hedged = desk.gone.iter().filter(|gone| gone.reason == Reason::HedgeLost).count();
     hedged == 3 && desk.state.pending.is_empty() && desk.state.preferred_peer == Some(3)
+}
+
+fn two_winners() -> bool {
+    let mut desk = Desk::open(usual());
+    desk.request(0, 5, 0..8);
+    desk.start_probe(3);
+    let mut state = desk.state.clone();
+    let probe = state.prefix_probe.as_mut().expect("a probe was started");
+    probe.racers = vec![(3, 15), (5, 15)];
+    desk.window = Original::loaded(&state);
+    desk.call(Call::CreditDeliveryFrom { clock: 0, hash: hash(7), source: 9, pending_height: None });
+    desk.state.preferred_peer == Some(3) && desk.gone.len() == 8
 }

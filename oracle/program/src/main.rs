@@ -1,7 +1,11 @@
 //! The oracle's commands; the scripts in oracle/ build and call this program.
 
+mod arms;
 mod figures;
 mod mutants;
+mod places;
+#[path = "../../original/substitutions.rs"]
+mod substitutions;
 
 use calls::compare;
 use calls::events;
@@ -13,9 +17,9 @@ use calls::text;
 use calls::{Call, Outcome};
 use ordered::Original as Ordered;
 use own_maps::Original as OwnMaps;
+use places::Places;
 use std::env;
 use std::io::{self, BufWriter, Write};
-use std::path::PathBuf;
 use std::process::ExitCode;
 
 fn main() -> ExitCode {
@@ -38,6 +42,7 @@ fn main() -> ExitCode {
             failed == 0
         }
         "mutants" => try_mutants(&options),
+        "arms" => count_arms(&options),
         other => {
             eprintln!("unknown command {other}");
             false
@@ -164,14 +169,23 @@ fn tally(options: &Options) -> bool {
     problems.is_empty()
 }
 
-/// The script tells where source, build and oracle/ are.
 fn try_mutants(options: &Options) -> bool {
-    let place =
-        |name: &str| env::var(name).map(PathBuf::from).unwrap_or_else(|_| panic!("{name} is not set: run oracle/mutants"));
-    let places = mutants::Places { source: place("KOFUDILE_SOURCE"), target: place("ORACLE_TARGET"), here: place("ORACLE_HERE") };
-    let (passed, failed) = mutants::run(&places, options.calls, options.seed, &options.only);
+    let (passed, failed) = mutants::run(&Places::told(), options.calls, options.seed, &options.only);
     println!("{passed} passed, {failed} failed");
     failed == 0
+}
+
+fn count_arms(options: &Options) -> bool {
+    match arms::run(&Places::told(), options.calls, options.seed) {
+        Ok((passed, failed)) => {
+            println!("{passed} passed, {failed} failed");
+            failed == 0
+        }
+        Err(problem) => {
+            println!("{problem}\n0 passed, 1 failed");
+            false
+        }
+    }
 }
 
 /// Every state the original reaches keeps 01's rules of what counts as a window, and can be loaded into a fresh one.

@@ -1,14 +1,11 @@
 //! One-line mistakes put into a copy of the original, one at a time: does a seeded run notice each?
 
+use crate::places::Places;
+use crate::substitutions::{POLICY, WINDOW, body_of, substituted};
 use std::fs;
-use std::path::{Path, PathBuf};
+use std::path::Path;
 use std::process::{Command, Stdio};
 use std::time::Instant;
-
-#[path = "../../original/substitutions.rs"]
-#[allow(dead_code)]
-mod substitutions;
-use substitutions::{POLICY, WINDOW, body_of, substituted};
 
 const LIST: &str = include_str!("../../mutants.txt");
 
@@ -25,13 +22,6 @@ enum Verdict {
     Noticed(String),
     Same,
     NotBuilt(String),
-}
-
-/// Where things are: the source, the build's folder, and oracle/ itself.
-pub struct Places {
-    pub source: PathBuf,
-    pub target: PathBuf,
-    pub here: PathBuf,
 }
 
 /// Tries every listed mutant whose line contains `only`; returns how many went as listed and how many did not.
@@ -81,7 +71,7 @@ fn parse(line: &'static str) -> Mutant {
 
 fn try_mutant(places: &Places, mutant: &Mutant, calls: u64, seed: u64) -> Verdict {
     let folder = places.target.join("mutant");
-    match write(places, mutant, &folder).and_then(|()| compile(places, &folder)) {
+    match write(places, mutant, &folder).and_then(|()| places.compile(&folder, "runners/mutant.rs")) {
         Ok(program) => drive(&program, calls, seed),
         Err(problem) => Verdict::NotBuilt(problem),
     }
@@ -108,33 +98,6 @@ fn edited(text: &str, mutant: &Mutant) -> Result<String, String> {
     let places: Vec<usize> = text[body.clone()].match_indices(mutant.old).map(|(at, _)| body.start + at).collect();
     let at = *places.get(mutant.occurrence - 1).ok_or(format!("{:?} occurs {} times", mutant.old, places.len()))?;
     Ok(format!("{}{}{}", &text[..at], mutant.new, &text[at + mutant.old.len()..]))
-}
-
-/// Unoptimised, as most runs are short; without assertions, as the original is.
-fn compile(places: &Places, folder: &Path) -> Result<PathBuf, String> {
-    let program = folder.join("runner");
-    let libraries = places.target.join("release");
-    let output = Command::new("rustc")
-        .args(["--edition", "2024", "--crate-name", "runner", "--cap-lints", "allow"])
-        .args(["-C", "debug-assertions=off", "-C", "overflow-checks=off", "-C", "codegen-units=1"])
-        .arg("-L")
-        .arg(format!("dependency={}", libraries.join("deps").display()))
-        .arg("--extern")
-        .arg(format!("calls={}", libraries.join("libcalls.rlib").display()))
-        .arg("--extern")
-        .arg(format!("ordered={}", libraries.join("libordered.rlib").display()))
-        .arg("-o")
-        .arg(&program)
-        .arg(places.here.join("mutant/runner.rs"))
-        .env("OUT_DIR", folder)
-        .env("CARGO_MANIFEST_DIR", places.here.join("original/ordered"))
-        .output()
-        .map_err(|error| error.to_string())?;
-    if output.status.success() {
-        return Ok(program);
-    }
-    let errors = String::from_utf8_lossy(&output.stderr);
-    Err(errors.lines().find(|line| line.starts_with("error")).unwrap_or("rustc failed").to_string())
 }
 
 /// A mutant that panics is noticed too.
