@@ -414,14 +414,25 @@ impl Generator {
         Call::SetFanoutEligiblePeers { clock: self.clock(state, &deadlines), count }
     }
 
+    /// A query that matters while a race runs or several peers download.
+    fn timely_query(&mut self, state: &State, source: Seat, hash: Hash) -> Option<Call> {
+        if state.prefix_probe.is_some() && self.random.chance(40) {
+            return Some(if self.random.chance(80) { Call::ProbeOffered { source, hash } } else { Call::ProbeStartedAt });
+        }
+        if state.cold_front.is_some() && self.random.chance(40) {
+            return Some(Call::HedgeOffered { source, hash });
+        }
+        if state.owner_downloading_since.len() > 1 && self.random.chance(15) {
+            return Some(Call::PeerHasExpiredPending { source, clock: self.clock(state, &start_deadlines(state)) });
+        }
+        None
+    }
+
     fn query(&mut self, state: &State) -> Call {
         let (source, hash) = (self.seat(state), self.hash(state));
         let (byte_headroom, count_headroom) = self.headrooms(state);
-        if state.prefix_probe.is_some() && self.random.chance(40) {
-            return if self.random.chance(80) { Call::ProbeOffered { source, hash } } else { Call::ProbeStartedAt };
-        }
-        if state.cold_front.is_some() && self.random.chance(40) {
-            return Call::HedgeOffered { source, hash };
+        if let Some(call) = self.timely_query(state, source, hash) {
+            return call;
         }
         match self.random.below(32) {
             0 => Call::FanoutActive,
@@ -434,7 +445,7 @@ impl Generator {
             7..=8 => Call::ComputeRequestCapacity { source, byte_headroom, count_headroom },
             9 => Call::EffectivePeerInflight,
             10 => Call::ExpiredPendingCapacity { clock: self.clock(state, &sweep_deadlines(state)) },
-            11 => Call::PeerHasExpiredPending { source, clock: self.clock(state, &sweep_deadlines(state)) },
+            11 => Call::PeerHasExpiredPending { source, clock: self.clock(state, &start_deadlines(state)) },
             12..=13 => Call::PeerInStallerCooldown { source, clock: self.clock(state, &cooling_deadlines(state)) },
             14 => Call::StallingPeer,
             15 => Call::PreferredPeer,
@@ -609,11 +620,14 @@ fn owner_timeout(state: &State) -> u64 {
     state.settings.block_spacing * (2 + others) / 2
 }
 
-fn sweep_deadlines(state: &State) -> Vec<Clock> {
+fn start_deadlines(state: &State) -> Vec<Clock> {
     let timeout = owner_timeout(state);
-    let starts = state.owner_downloading_since.iter().map(|(_, since)| since.saturating_add(timeout));
+    state.owner_downloading_since.iter().map(|(_, since)| since.saturating_add(timeout)).collect()
+}
+
+fn sweep_deadlines(state: &State) -> Vec<Clock> {
     let entries = state.pending.iter().map(|entry| entry.requested_at.saturating_add(state.stall_timeout));
-    starts.chain(entries).collect()
+    start_deadlines(state).into_iter().chain(entries).collect()
 }
 
 fn cooling_deadlines(state: &State) -> Vec<Clock> {
