@@ -157,7 +157,7 @@ impl Generator {
             (Action::Credit, when(racing, 20, 4)),
             (Action::Duplicate, when(observed, 6, 1)),
             (Action::Reject, 5),
-            (Action::Sweep, when(theme == Theme::TimeOuts, 14, 4)),
+            (Action::Sweep, when(asked_again(state), 40, when(theme == Theme::TimeOuts, 14, 4))),
             (Action::Retry, 4),
             (Action::Release, 3),
             (Action::Retire, 2),
@@ -174,10 +174,9 @@ impl Generator {
     }
 
     fn request(&mut self, state: &State) -> Call {
-        let owner = self.seat_for_request(state);
+        let (owner, start) = self.asked_for(state);
         let room = MAX_PENDING - state.pending.len();
         let wanted = self.world.batch(&mut self.random, room);
-        let start = self.world.fresh_index(&mut self.random, state);
         let mut entries: Vec<(Hash, u32)> = Vec::new();
         for index in start..self.world.pool {
             let hash = self.world.hash(index);
@@ -199,6 +198,17 @@ impl Generator {
         let next_request_height = self.random.pick(&[above, above, above, above, 0, top, bottom, bottom, frontier, u32::MAX]);
         let (byte_headroom, count_headroom) = self.headrooms(state);
         Call::MarkRequested { clock: self.clock(state, &[]), owner, entries, next_request_height, byte_headroom, count_headroom }
+    }
+
+    /// Who asks, and from which index on: an observed entry that is gone is often asked of another peer.
+    fn asked_for(&mut self, state: &State) -> (Seat, u64) {
+        if let Some(seen) = state.pending_timeout_observation
+            && state.pending.iter().all(|entry| entry.hash != seen.hash)
+            && self.random.chance(60)
+        {
+            return (self.world.other_seat(&mut self.random, seen.owner), self.world.index_of(seen.hash));
+        }
+        (self.seat_for_request(state), self.world.fresh_index(&mut self.random, state))
     }
 
     fn owned_fetch(&mut self, state: &State) -> Call {
@@ -607,6 +617,12 @@ impl Generator {
 
 fn when(condition: bool, then: u64, otherwise: u64) -> u64 {
     if condition { then } else { otherwise }
+}
+
+/// Whether an observed entry is pending by another owner than the observed one.
+fn asked_again(state: &State) -> bool {
+    let observed = state.pending_timeout_observation;
+    observed.is_some_and(|seen| state.pending.iter().any(|entry| entry.hash == seen.hash && entry.owner != seen.owner))
 }
 
 /// A front past the four that decide a race, so that a hedge may still race when the probe is won.

@@ -183,10 +183,13 @@ impl World {
         }
     }
 
+    pub fn index_of(&self, hash: Hash) -> u64 {
+        (0..self.pool).find(|index| self.hash(*index) == hash).expect("hashes come from the pool")
+    }
+
     /// The height that belongs to a hash of this world.
     pub fn height_of(&self, random: &mut Random, hash: Hash) -> u32 {
-        let index = (0..self.pool).find(|index| self.hash(*index) == hash).expect("hashes come from the pool");
-        self.height(random, index)
+        self.height(random, self.index_of(hash))
     }
 
     pub fn body(&self, random: &mut Random, state: &State) -> u64 {

@@ -168,6 +168,8 @@ fn swept_observation(tally: &mut Tally, seen: &Seen) {
         None => tally.hit("expire_pending: observed entry not swept"),
         Some(gone) => {
             tally.either("expire_pending: observed entry swept, of the observed owner", gone.entry.owner == observed.owner);
+            let foreign = gone.entry.owner != observed.owner && !observed.expired_release;
+            tally.hit_if("expire_pending: observed entry swept of another owner, observation left unmarked", foreign);
             tally.hit_if(
                 "expire_pending: observation marked",
                 seen.after.pending_timeout_observation.is_some_and(|after| after.expired_release) && !observed.expired_release,
