@@ -31,5 +31,5 @@ build() {
 
 # oracle COMMAND CALLS SEED OPTIONS...
 oracle() {
-    "$target/release/oracle" "$@"
+    ORACLE_TARGET=$target ORACLE_HERE=$here "$target/release/oracle" "$@"
 }

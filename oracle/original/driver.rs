@@ -65,6 +65,99 @@ impl Original {
         Self { base, settings, keys: keys.to_vec(), last_clock: clock, window, state }
     }
 
+    /// A window in any state that the original's fields can hold, whether calls reach it or not.
+    pub fn loaded(state: &State) -> Self {
+        let mut original = Self::opened(state.last_clock, state.settings, &state.keys);
+        original.load_tables(state);
+        original.load_watch(state);
+        original.load_races(state);
+        original.state = original.snapshot();
+        original
+    }
+
+    fn load_tables(&mut self, state: &State) {
+        self.window.pending_bytes = state.pending_bytes as usize;
+        self.window.pending_blocks_high_water = state.pending_blocks_high_water as usize;
+        self.window.pending_bytes_high_water = state.pending_bytes_high_water as usize;
+        self.window.ewma_block_bytes = state.ewma_block_bytes as usize;
+        self.window.next_request_height = state.next_request_height;
+        for entry in &state.pending {
+            let pending = PendingBlock {
+                owner: self.source(entry.owner),
+                requested_at: self.at(entry.requested_at),
+                height: entry.height,
+                estimated_bytes: entry.estimated_bytes as usize,
+            };
+            self.window.pending.insert(original_hash(entry.hash), pending);
+        }
+        for (seat, since) in &state.owner_downloading_since {
+            let (owner, since) = (self.source(*seat), self.at(*since));
+            self.window.owner_downloading_since.insert(owner, since);
+        }
+        for (seat, last) in &state.owner_last_body_at {
+            let (owner, last) = (self.source(*seat), self.at(*last));
+            self.window.owner_last_body_at.insert(owner, last);
+        }
+        for (key, fired_at) in &state.recent_stallers {
+            let fired_at = self.at(*fired_at);
+            self.window.recent_stallers.insert(StallerKey::Endpoint(PeerEndpoint(*key)), fired_at);
+        }
+    }
+
+    fn load_watch(&mut self, state: &State) {
+        self.window.stall = state.stall.map(|stall| StallEpisode {
+            owner: self.source(stall.owner),
+            front_hash: original_hash(stall.front_hash),
+            since: self.at(stall.since),
+            info_logged: false,
+        });
+        self.window.apply_side_stuck = state.apply_side_stuck.map(|stuck| ApplySideStuck {
+            height: stuck.height,
+            frontier_hash: original_hash(stuck.frontier_hash),
+            since: self.at(stuck.since),
+        });
+        self.window.front_interval_ewma_ms = state.front_interval_ewma_ms;
+        self.window.last_front_advance = state.last_front_advance.map(|clock| self.at(clock));
+        self.window.stall_timeout = Duration::from_nanos(state.stall_timeout);
+        self.window.pending_timeout_observation = state.pending_timeout_observation.map(|seen| PendingTimeoutObservation {
+            owner: self.source(seen.owner),
+            hash: original_hash(seen.hash),
+            expired_release: seen.expired_release,
+        });
+    }
+
+    fn load_races(&mut self, state: &State) {
+        self.window.fanout_eligible_peers = state.fanout_eligible_peers as usize;
+        self.window.fanout_engaged = state.fanout_engaged;
+        self.window.cold_front = state.cold_front.map(|front| match front {
+            calls::ColdFront::Waiting { owner, hash, since } => {
+                ColdFrontState::Waiting { owner: self.source(owner), hash: original_hash(hash), since: self.at(since) }
+            }
+            calls::ColdFront::Racing { owner, alternate, hash } => {
+                ColdFrontState::Racing { owner: self.source(owner), alternate: self.source(alternate), hash: original_hash(hash) }
+            }
+        });
+        self.window.cold_hedged_fronts = state.cold_hedged_fronts.iter().copied().map(original_hash).collect();
+        self.window.preferred_peer = state.preferred_peer.map(|seat| self.source(seat));
+        self.window.prefix_probe_attempted_owner = state.prefix_probe_attempted_owner.map(|seat| self.source(seat));
+        self.window.prefix_probe = state.prefix_probe.as_ref().map(|probe| {
+            let mut racers = HashMap::new();
+            racers.extend(probe.racers.iter().map(|(seat, progress)| (self.source(*seat), *progress)));
+            PrefixProbe {
+                owner: self.source(probe.owner),
+                hashes: probe.hashes.iter().copied().map(original_hash).collect(),
+                racers,
+                accepted: probe.accepted,
+                started_at: self.at(probe.started_at),
+            }
+        });
+    }
+
+    /// The whole pending side as it stands.
+    pub fn state(&self) -> &State {
+        &self.state
+    }
+
     fn snapshot(&self) -> State {
         snapshot(&self.window, self.base, &self.settings, &self.keys, self.last_clock)
     }
@@ -87,9 +180,7 @@ impl Original {
             return Vec::new();
         };
         let active = self.window.active_downloading_peers();
-        (0..=u8::MAX)
-            .filter(|seat| self.window.owner_download_expired(self.source(*seat), active, self.at(*clock)))
-            .collect()
+        (0..=u8::MAX).filter(|seat| self.window.owner_download_expired(self.source(*seat), active, self.at(*clock))).collect()
     }
 
     /// 01's report: what is no longer in the map, with its reason.
@@ -108,9 +199,17 @@ impl Original {
         match call {
             Call::MarkRequested { clock, owner, entries, next_request_height, byte_headroom, count_headroom } => {
                 let owner = self.source(*owner);
-                let entries = entries.iter().map(|(hash, height)| PeerRequestEntry { hash: original_hash(*hash), height: *height }).collect();
+                let entries = entries
+                    .iter()
+                    .map(|(hash, height)| PeerRequestEntry { hash: original_hash(*hash), height: *height })
+                    .collect();
                 let request = PeerRequest { owner, entries, next_request_height: *next_request_height };
-                Answer::Flag(self.window.mark_requested(&headroom(*byte_headroom, *count_headroom), &request, owner, self.at(*clock)))
+                Answer::Flag(self.window.mark_requested(
+                    &headroom(*byte_headroom, *count_headroom),
+                    &request,
+                    owner,
+                    self.at(*clock),
+                ))
             }
             Call::MarkOwnedFetch { .. } => self.mark_owned_fetch(call),
             Call::ConfirmPrefixProbe { clock, owner, hashes, alternates } => {
@@ -244,9 +343,11 @@ impl Original {
             Call::MaxPendingBlocks => Answer::Number(window.max_pending_blocks() as u64),
             Call::MinPeersForFanout => Answer::Number(window.min_peers_for_fanout() as u64),
             Call::EffectivePeerInflight => Answer::Number(window.effective_peer_inflight() as u64),
-            Call::StallingPeer => Answer::MaybePair(window.stalling_peer().map(|(endpoint, since)| {
-                (endpoint.map_or(u64::MAX, |key| u64::from(key.0)), self.clock(since))
-            })),
+            Call::StallingPeer => Answer::MaybePair(
+                window
+                    .stalling_peer()
+                    .map(|(endpoint, since)| (endpoint.map_or(u64::MAX, |key| u64::from(key.0)), self.clock(since))),
+            ),
             Call::PreferredPeer => Answer::MaybeNumber(window.preferred_peer().map(|peer| u64::from(peer.seat))),
             Call::PrefixProbePlan => Answer::Planned(window.prefix_probe_plan().map(|(owner, hashes, end_height)| Plan {
                 owner: owner.seat,
@@ -288,8 +389,12 @@ impl Original {
             Call::PeerInStallerCooldown { source, clock } => {
                 Answer::Flag(window.peer_in_staller_cooldown(self.source(*source), self.at(*clock)))
             }
-            Call::ProbeOffered { source, hash } => Answer::Flag(window.probe_offered(self.source(*source), &original_hash(*hash))),
-            Call::HedgeOffered { source, hash } => Answer::Flag(window.hedge_offered(self.source(*source), &original_hash(*hash))),
+            Call::ProbeOffered { source, hash } => {
+                Answer::Flag(window.probe_offered(self.source(*source), &original_hash(*hash)))
+            }
+            Call::HedgeOffered { source, hash } => {
+                Answer::Flag(window.hedge_offered(self.source(*source), &original_hash(*hash)))
+            }
             Call::ContainsPending { hash } => Answer::Flag(window.contains_pending(&original_hash(*hash))),
             Call::PendingOwner { hash } => {
                 Answer::MaybeNumber(window.pending_owner(&original_hash(*hash)).map(|owner| u64::from(owner.seat)))
@@ -324,7 +429,9 @@ fn reason(call: &Call, entry: &Entry, before: &State, expired: &[Seat]) -> Reaso
 /// A hedge lost ends the prefix race, so a body decides one of the two.
 fn race_lost(before: &State, hash: calls::Hash, source: Option<Seat>) -> Reason {
     match before.cold_front {
-        Some(calls::ColdFront::Racing { alternate, hash: racing, .. }) if racing == hash && source == Some(alternate) => Reason::HedgeLost,
+        Some(calls::ColdFront::Racing { alternate, hash: racing, .. }) if racing == hash && source == Some(alternate) => {
+            Reason::HedgeLost
+        }
         _ => Reason::PrefixRaceLost,
     }
 }

@@ -96,7 +96,10 @@ impl World {
             Theme::TopHeights => u32::MAX - random.below(pool) as u32,
             _ => random.pick(&[0, 1, 1, 700, 800_000, 1 << 31]),
         };
-        let seat_count = if theme == Theme::FullTable { SEATS as u64 } else { 1 + random.below(6) };
+        let seat_count = match theme {
+            Theme::FullTable => SEATS as u64,
+            _ => random.pick(&[1, 2, 2, 3, 3, 4, 5, 6]),
+        };
         let mut seats: Vec<Seat> = (0..seat_count).map(|_| random.next() as u8).collect();
         if random.chance(20) {
             seats.extend([0, 255]);
@@ -119,11 +122,17 @@ impl World {
         if random.chance(3) { random.next() as u8 } else { random.pick(&self.seats) }
     }
 
+    /// Another seat than this one, if the world has one.
+    pub fn other_seat(&self, random: &mut Random, seat: Seat) -> Seat {
+        let others: Vec<Seat> = self.seats.iter().copied().filter(|other| *other != seat).collect();
+        random.maybe(&others).unwrap_or(seat)
+    }
+
     /// How many entries a request lists.
     pub fn batch(&self, random: &mut Random, room: usize) -> usize {
         let most = match self.theme {
             Theme::FullTable => random.pick(&[1, 16, 60, 200, 256]),
-            Theme::Races => random.pick(&[1, 4, 5, 8, 9, 10]),
+            Theme::Races => random.pick(&[0, 1, 4, 4, 5, 8, 9, 10]),
             _ => random.pick(&[0, 1, 1, 2, 3, 4, 5, 8, 12]),
         };
         let table_room = (self.table as usize).max(4);
@@ -174,10 +183,13 @@ impl World {
         }
     }
 
+    pub fn index_of(&self, hash: Hash) -> u64 {
+        (0..self.pool).find(|index| self.hash(*index) == hash).expect("hashes come from the pool")
+    }
+
     /// The height that belongs to a hash of this world.
     pub fn height_of(&self, random: &mut Random, hash: Hash) -> u32 {
-        let index = (0..self.pool).find(|index| self.hash(*index) == hash).expect("hashes come from the pool");
-        self.height(random, index)
+        self.height(random, self.index_of(hash))
     }
 
     pub fn body(&self, random: &mut Random, state: &State) -> u64 {
