@@ -11,7 +11,7 @@ use model::Settings;
 const MIN_SAMPLE: u64 = 50;
 
 // `sample-ms`: whole ms since the stored last advance.
-pub fn sample_ms(now: u64, advance: u64) -> u64
+fn sample_ms(now: u64, advance: u64) -> u64
     requires { ⌜ now ≤ max-clock ⌝ }
     ensures { λ r. ⌜ r ≡ sample-ms now advance ⌝ }
 {
@@ -19,7 +19,7 @@ pub fn sample_ms(now: u64, advance: u64) -> u64
 }
 
 // `nearer`: a quarter of the difference, rounded down.
-pub fn nearer(m: u64, sample: u64) -> u64
+fn nearer(m: u64, sample: u64) -> u64
     ensures { λ r. ⌜ r ≡ nearer m sample ⌝ }
 {
     if m <= sample {
@@ -29,7 +29,7 @@ pub fn nearer(m: u64, sample: u64) -> u64
 }
 
 // `front-mean-by`: the stored mean after a sample. One that is too short leaves it, the first is the mean.
-pub fn front_mean_by(mean: u64, sample: u64) -> u64
+fn front_mean_by(mean: u64, sample: u64) -> u64
     requires { ⌜ (mean ≤ suc max-front-mean) × (sample ≤ max-front-mean) ⌝ }
     ensures { λ r. ⌜ r ≡ front-mean-by mean sample ⌝ }
 {
@@ -43,7 +43,7 @@ pub fn front_mean_by(mean: u64, sample: u64) -> u64
 }
 
 // `front-mean`: without a last advance there is no sample.
-pub fn front_mean(now: u64, advance: u64, mean: u64) -> u64
+fn front_mean(now: u64, advance: u64, mean: u64) -> u64
     requires { ⌜ (now ≤ max-clock) × (mean ≤ suc max-front-mean) ⌝ }
     ensures { λ r. ⌜ r ≡ front-mean now advance mean ⌝ }
 {
@@ -65,7 +65,7 @@ fn twice_ns(mean: u64) -> u64
 }
 
 // `decay-floor`
-pub fn decay_floor(initial: u64, most: u64, mean: u64) -> u64
+fn decay_floor(initial: u64, most: u64, mean: u64) -> u64
     requires { ⌜ mean ≤ suc max-front-mean ⌝ }
     ensures { λ r. ⌜ r ≡ decay-floor initial most mean ⌝ }
 {
@@ -81,7 +81,7 @@ pub fn stall_decay_floor(b: Settings, p: Pace) -> u64
 }
 
 // `decayed`: the stall wait after a front, no lower than the floor.
-pub fn decayed(wait: u64, floor: u64) -> u64
+fn decayed(wait: u64, floor: u64) -> u64
     requires { ⌜ wait ≤ max-duration ⌝ }
     ensures { λ r. ⌜ r ≡ decayed wait floor ⌝ }
 {
