@@ -1,0 +1,1 @@
+// Laws about the model's definitions. No code.
