@@ -2,8 +2,8 @@
 use mathlib.Core.Path.{_≡_, refl, sym, ap, _∙_}
 use mathlib.Core.Logic.{_⊎_, inl, inr}
 use mathlib.Core.Bool.{Bool, true, false, cond, not, _&&_}
-use Prim.Native.Nat.{ℕ, zero, suc, _+_, _-_, _/_, _≤_, _<_}
-use native.Mathlib.Nat.{add-div-right, div-eq-of-lt}
+use Prim.Native.Nat.{ℕ, zero, suc, _+_, _-_, _*_, _/_, _≤_, _<_}
+use native.Mathlib.Nat.{add-div-right, div-eq-of-lt, mul-le-mul}
 use native.Mathlib.Omega.{arith}
 use lib.Dec.{eqb, leb}
 use borrow.Author.Tests.{le-leb, lt-leb, leb-true, leb-false, eq-eqb, ne-eqb, eqb-true, eqb-false, not-true, not-false}
@@ -30,6 +30,20 @@ and-both a b p q = rw (p, q)
 pub cond-same : {A : Type 0} (b : Bool) (x : A) → cond b x x ≡ x
 cond-same true x = refl
 cond-same false x = refl
+
+-- two tests of which each says what the other does
+pub leb-alike : (a b c d : ℕ) → (a ≤ b → c ≤ d) → (c ≤ d → a ≤ b) → leb a b ≡ leb c d
+leb-alike a b c d p q = elim (both (leb a b)) [
+  | inl t ↦ rw t (sym (le-leb c d (p (leb-true a b t))))
+  | inr t ↦ elim (both (leb c d)) [
+    | inl u ↦ absurd (omega (arith, leb-false a b t, q (leb-true c d u)))
+    | inr u ↦ rw (t, u)
+  ]
+]
+
+-- a product within two bounds
+pub product-le : (a m b n : ℕ) → a ≤ m → b ≤ n → a * b ≤ m * n
+product-le a m b n p q = mul-le-mul p q
 
 -- ---- lesser
 
