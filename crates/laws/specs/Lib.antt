@@ -6,3 +6,7 @@ pub mod Parts
 pub mod Queues
 pub mod Lets
 pub mod RacesKept
+pub mod Every
+pub mod PaceKept
+pub mod RequestsKept
+pub mod CallsKept

@@ -198,3 +198,20 @@ module _ {c : ℕ} {w : Window} (g : Sound c w) where
 
   pub sound-observation : (x : Observation) → SoundObservation x → Sound c (with-observation x w)
   sound-observation x k = let r = g .watch in sound-watch _ (record { stall = r .stall; stuck = r .stuck; observation = k })
+
+  -- both together, as a request raises the high waters with the queue
+  pub sound-filled : (q : Queue) (h : HighWater) → SoundQueue c q → NoLower h q → Sound c (with-high h (with-queue q w))
+  sound-filled q h k b = record {
+    clock = g .clock;
+    settings = g .settings;
+    keys = g .keys;
+    mean-least = g .mean-least;
+    mean-most = g .mean-most;
+    frontier = g .frontier;
+    high = b;
+    queue = k;
+    cooling = g .cooling;
+    pace = g .pace;
+    races = g .races;
+    watch = g .watch;
+  }
