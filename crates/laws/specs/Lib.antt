@@ -10,3 +10,5 @@ pub mod Every
 pub mod PaceKept
 pub mod RequestsKept
 pub mod CallsKept
+pub mod LooksKept
+pub mod Kept
