@@ -1,3 +1,16 @@
 pub mod Numbers
 pub mod Rows
 pub mod Tables
+pub mod Bag
+pub mod Entries
+pub mod Sound
+pub mod Parts
+pub mod Queues
+pub mod Lets
+pub mod RacesKept
+pub mod Every
+pub mod PaceKept
+pub mod RequestsKept
+pub mod CallsKept
+pub mod LooksKept
+pub mod Kept
