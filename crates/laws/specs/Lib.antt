@@ -14,3 +14,5 @@ pub mod RequestsKept
 pub mod CallsKept
 pub mod LooksKept
 pub mod Kept
+pub mod Heads
+pub mod Whole
