@@ -1,4 +1,6 @@
 pub mod Numbers
+pub mod Rows
+pub mod Tables
 pub mod Bag
 pub mod Entries
 pub mod Sound
@@ -12,3 +14,6 @@ pub mod RequestsKept
 pub mod CallsKept
 pub mod LooksKept
 pub mod Kept
+pub mod Heads
+pub mod Valid
+pub mod Words
