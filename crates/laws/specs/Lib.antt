@@ -16,3 +16,5 @@ pub mod LooksKept
 pub mod Kept
 pub mod Heads
 pub mod Whole
+pub mod Valid
+pub mod Words
