@@ -16,5 +16,6 @@ pub mod LooksKept
 pub mod Kept
 pub mod Heads
 pub mod Whole
+pub mod Groups
 pub mod Valid
 pub mod Words
