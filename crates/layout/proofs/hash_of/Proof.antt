@@ -17,40 +17,40 @@ at : (k j : ℕ) (ws : List ℕ) → getD ws (3584 + k + j) 0 ≡ word (k + j) (
 at k j ws = let e : 3584 + k + j ≡ 3584 + (k + j) = omega arith in ap (λ (n : ℕ). getD ws n 0) e ∙ sym (word-decode (k + j) ws)
 
 add-a : tie.Need-add-a
-add-a c = search needs
+add-a c = omega arith
 
 mul-t4 : tie.Need-mul-t4
-mul-t4 c = search needs
+mul-t4 c = omega arith
 
 shared-slice-read-t6 : tie.Need-shared-slice-read-t6
-shared-slice-read-t6 c = search needs
+shared-slice-read-t6 c = omega arith
 
 add-t7 : tie.Need-add-t7
-add-t7 c = search needs
+add-t7 c = omega arith
 
 mul-t8 : tie.Need-mul-t8
-mul-t8 c = search needs
+mul-t8 c = omega arith
 
 shared-slice-read-t10 : tie.Need-shared-slice-read-t10
-shared-slice-read-t10 c = search needs
+shared-slice-read-t10 c = omega arith
 
 add-t11 : tie.Need-add-t11
-add-t11 c = search needs
+add-t11 c = omega arith
 
 mul-t12 : tie.Need-mul-t12
-mul-t12 c = search needs
+mul-t12 c = omega arith
 
 shared-slice-read-t14 : tie.Need-shared-slice-read-t14
-shared-slice-read-t14 c = search needs
+shared-slice-read-t14 c = omega arith
 
 add-t15 : tie.Need-add-t15
-add-t15 c = search needs
+add-t15 c = omega arith
 
 mul-t16 : tie.Need-mul-t16
-mul-t16 c = search needs
+mul-t16 c = omega arith
 
 shared-slice-read-t18 : tie.Need-shared-slice-read-t18
-shared-slice-read-t18 c = search needs
+shared-slice-read-t18 c = omega arith
 
 returns : tie.Need-returns
 unfolding hash-at

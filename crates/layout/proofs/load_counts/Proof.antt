@@ -1,4 +1,5 @@
 -- `layout::load_counts` meets its contract. Assumes nothing.
+use native.Mathlib.Omega.{arith}
 use mathlib.Core.Path.{sym}
 use Rattle.model.specs.Lists.{count}
 use Rattle.laws.specs.Tables.{word-decode}
@@ -10,25 +11,25 @@ use Rattle.layout.proofs.load_counts.Reads as reads
 use Rattle.layout.proofs.load_counts.Lts as lts
 
 shared-slice-read-t3 : tie.Need-shared-slice-read-t3
-shared-slice-read-t3 c = search needs
+shared-slice-read-t3 c = omega arith
 
 shared-slice-read-t5 : tie.Need-shared-slice-read-t5
-shared-slice-read-t5 c = search needs
+shared-slice-read-t5 c = omega arith
 
 shared-slice-read-t7 : tie.Need-shared-slice-read-t7
-shared-slice-read-t7 c = search needs
+shared-slice-read-t7 c = omega arith
 
 shared-slice-read-t9 : tie.Need-shared-slice-read-t9
-shared-slice-read-t9 c = search needs
+shared-slice-read-t9 c = omega arith
 
 shared-slice-read-t11 : tie.Need-shared-slice-read-t11
-shared-slice-read-t11 c = search needs
+shared-slice-read-t11 c = omega arith
 
 shared-slice-read-t13 : tie.Need-shared-slice-read-t13
-shared-slice-read-t13 c = search needs
+shared-slice-read-t13 c = omega arith
 
 shared-slice-read-t15 : tie.Need-shared-slice-read-t15
-shared-slice-read-t15 c = search needs
+shared-slice-read-t15 c = omega arith
 
 returns : tie.Need-returns
 unfolding counts-of

@@ -1,4 +1,5 @@
 -- `layout::load_fanout` meets its contract. Assumes nothing.
+use native.Mathlib.Omega.{arith}
 use mathlib.Core.Path.{sym}
 use lib.Dec.{eqb}
 use Rattle.laws.specs.Tables.{word-decode}
@@ -10,10 +11,10 @@ use Rattle.layout.proofs.load_fanout.Reads as reads
 use Rattle.layout.proofs.load_fanout.Lts as lts
 
 shared-slice-read-engaged : tie.Need-shared-slice-read-engaged
-shared-slice-read-engaged c = search needs
+shared-slice-read-engaged c = omega arith
 
 shared-slice-read-t4 : tie.Need-shared-slice-read-t4
-shared-slice-read-t4 c = search needs
+shared-slice-read-t4 c = omega arith
 
 returns : tie.Need-returns
 unfolding fanout-of

@@ -1,4 +1,5 @@
 -- `layout::load_pace` meets its contract. Assumes nothing.
+use native.Mathlib.Omega.{arith}
 use mathlib.Core.Path.{sym}
 use Rattle.model.specs.Pace.{pace}
 use Rattle.laws.specs.Tables.{word-decode}
@@ -9,13 +10,13 @@ use Rattle.layout.proofs.load_pace.Reads as reads
 use Rattle.layout.proofs.load_pace.Lts as lts
 
 shared-slice-read-t3 : tie.Need-shared-slice-read-t3
-shared-slice-read-t3 c = search needs
+shared-slice-read-t3 c = omega arith
 
 shared-slice-read-t5 : tie.Need-shared-slice-read-t5
-shared-slice-read-t5 c = search needs
+shared-slice-read-t5 c = omega arith
 
 shared-slice-read-t7 : tie.Need-shared-slice-read-t7
-shared-slice-read-t7 c = search needs
+shared-slice-read-t7 c = omega arith
 
 returns : tie.Need-returns
 returns c =

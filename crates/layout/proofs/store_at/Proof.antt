@@ -14,22 +14,22 @@ use Rattle.layout.proofs.store_at.Lts as lts
 use Rattle.column.proofs.copy_over.Reads as copy-over-reads
 
 add-a : tie.Need-add-a
-add-a c = search needs
+add-a c = omega arith
 
 add-e : tie.Need-add-e
-add-e c = search needs
+add-e c = omega arith
 
 mul-copy-over : tie.Need-mul-copy-over
-mul-copy-over c = search needs
+mul-copy-over c = omega arith
 
 sub-copy-over : tie.Need-sub-copy-over
-sub-copy-over c = search needs
+sub-copy-over c = omega arith
 
 part-copy-over-start : tie.Need-part-copy-over-start
-part-copy-over-start c = search needs
+part-copy-over-start c = omega arith
 
 part-copy-over-end : tie.Need-part-copy-over-end
-part-copy-over-end c = search needs
+part-copy-over-end c = omega arith
 
 copy-over-requires : tie.Need-copy-over-requires
 copy-over-requires c κs = search needs

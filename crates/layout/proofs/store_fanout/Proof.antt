@@ -1,4 +1,5 @@
 -- `layout::store_fanout` meets its contract. Assumes nothing.
+use native.Mathlib.Omega.{arith}
 use mathlib.Core.Path.{ap, _∙_}
 use mathlib.Core.List.{[], _∷_}
 use Prim.Native.Nat.{ℕ}
@@ -17,7 +18,7 @@ flag-word-requires : tie.Need-flag-word-requires
 flag-word-requires c κs = search needs
 
 slice-aggregate-store-at : tie.Need-slice-aggregate-store-at
-slice-aggregate-store-at c = search needs
+slice-aggregate-store-at c = omega arith
 
 store-at-requires : tie.Need-store-at-requires
 store-at-requires c κs = search needs

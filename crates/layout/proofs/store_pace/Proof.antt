@@ -1,4 +1,5 @@
 -- `layout::store_pace` meets its contract. Assumes nothing.
+use native.Mathlib.Omega.{arith}
 use Rattle.layout.specs.Head.{pace-list}
 use borrow.Author.Needs.{needs}
 use Rattle.layout.proofs.store_pace.Statement.{statement}
@@ -8,7 +9,7 @@ use Rattle.layout.proofs.store_pace.Lts as lts
 use Rattle.layout.proofs.store_at.Reads as store-at-reads
 
 slice-aggregate-store-at : tie.Need-slice-aggregate-store-at
-slice-aggregate-store-at c = search needs
+slice-aggregate-store-at c = omega arith
 
 store-at-requires : tie.Need-store-at-requires
 store-at-requires c κs = search needs

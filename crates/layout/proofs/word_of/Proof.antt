@@ -1,4 +1,5 @@
 -- `layout::word_of` meets its contract. Assumes nothing.
+use native.Mathlib.Omega.{arith}
 use mathlib.Core.Path.{sym}
 use Rattle.laws.specs.Tables.{word-decode}
 use borrow.Author.Needs.{needs}
@@ -8,13 +9,13 @@ use Rattle.layout.proofs.word_of.Reads as reads
 use Rattle.layout.proofs.word_of.Lts as lts
 
 add-result : tie.Need-add-result
-add-result c = search needs
+add-result c = omega arith
 
 mul-result : tie.Need-mul-result
-mul-result c = search needs
+mul-result c = omega arith
 
 shared-slice-read-result : tie.Need-shared-slice-read-result
-shared-slice-read-result c = search needs
+shared-slice-read-result c = omega arith
 
 returns : tie.Need-returns
 returns c = sym (word-decode (c .before .args .k) (c .before .args .words .now))
