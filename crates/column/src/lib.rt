@@ -1,0 +1,86 @@
+// Operations on one column of words, in place. A column is a whole slice: the places past the live ones hold 0, so that an operation on all of
+// the column is the operation on its live places, and no contract names how many are live.
+ghost use mathlib.Core.Path.{_≡_};
+ghost use mathlib.Core.List.{_++_, _∷_, []};
+ghost use Prim.Native.Nat.{_-_, _<_, _≤_};
+ghost use lib.ListN.{length, set, take, replicate};
+ghost use Rattle.model.specs.Lists.{removeAt, inserted, keptBy};
+
+// Takes the word at `at` out: those after it move one place down, and the last place becomes 0.
+pub fn remove_at(col: &mut [u64], at: usize)
+    requires { ⌜ at < length (now col) ⌝ }
+    ensures { λ _. ⌜ now (col .exit) ≡ removeAt at (now (col .entry)) ++ (0 ∷ []) ⌝ }
+{
+    let mut i = at;
+    while i + 1 < col.len() {
+        col[i] = col[i + 1];
+        i += 1;
+    }
+    col[i] = 0;
+}
+
+// Copies `src` over `dst`, which is as long.
+pub fn copy_over(dst: &mut [u64], src: &[u64])
+    requires { ⌜ length (now dst) ≡ length (now src) ⌝ }
+    ensures { λ _. ⌜ now (dst .exit) ≡ now (src .entry) ⌝ }
+{
+    let mut i = 0;
+    while i < src.len() {
+        dst[i] = src[i];
+        i += 1;
+    }
+}
+
+// Puts `value` at `at`: the words from there on move one place up, and the last falls off.
+pub fn insert_at(col: &mut [u64], at: usize, value: u64)
+    requires { ⌜ at ≤ length (now col) ⌝ }
+    ensures { λ _. ⌜ now (col .exit) ≡ inserted at value (now (col .entry)) ⌝ }
+{
+    let mut carry = value;
+    let mut i = at;
+    while i < col.len() {
+        let next = col[i];
+        col[i] = carry;
+        carry = next;
+        i += 1;
+    }
+}
+
+// Puts 0 in the places from `from` on.
+pub fn clear_from(col: &mut [u64], from: usize)
+    requires { ⌜ from ≤ length (now col) ⌝ }
+    ensures { λ _. ⌜ now (col .exit) ≡ take from (now (col .entry)) ++ replicate (length (now (col .entry)) - from) 0 ⌝ }
+{
+    let mut i = from;
+    while i < col.len() {
+        col[i] = 0;
+        i += 1;
+    }
+}
+
+// Keeps the words whose mark is 0, in order, from the first place on, and puts 0 in the places that are left.
+pub fn keep_unmarked(col: &mut [u64], marks: &[u64])
+    requires { ⌜ length (now marks) ≡ length (now col) ⌝ }
+    ensures { λ _. ⌜ now (col .exit) ≡ keptBy (now (marks .entry)) 0 (now (col .entry)) ⌝ }
+{
+    let mut i = 0;
+    let mut j = 0;
+    while i < col.len() {
+        if marks[i] == 0 {
+            col[j] = col[i];
+            i += 1;
+            j += 1;
+        } else {
+            i += 1;
+        }
+    }
+    clear_from(col, j);
+}
+
+// One word.
+pub fn store(col: &mut [u64], at: usize, value: u64)
+    requires { ⌜ at < length (now col) ⌝ }
+    ensures { λ _. ⌜ now (col .exit) ≡ set (now (col .entry)) at value ⌝ }
+{
+    col[at] = value;
+}
