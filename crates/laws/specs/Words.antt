@@ -422,3 +422,90 @@ module _ (t : Table) (z : Sized t) where
         (λ i. sym (v .format-is) i ∷ n i ∷ word 2 t ∷ word 3 t ∷ word 4 t ∷ word 5 t ∷ word 6 t ∷ word 7 t
         ∷ word 8 t ∷ word 9 t ∷ word 10 t ∷ word 11 t ∷ word 12 t ∷ word 13 t ∷ word 14 t ∷ word 15 t ∷ word 16 t ∷ word 17 t ∷ word 18 t ∷ word 19 t
         ∷ word 20 t ∷ x i ∷ word 22 t ∷ word 23 t ∷ word 24 t ∷ p i ∷ a i ∷ tail-groups i) ∙ front-words
+
+    table-read : table (read t) ≡ t
+    unfolding table read pad live
+    table-read =
+        let n = word 1 t in
+        let es = t .entries in
+        let many : length (take n es) ≡ n = length-take-le n es (omega (arith, z .entries, v .few)) in
+        let rest : length (drop n es) ≡ 256 - length (take n es) = length-drop n es ∙ omega (arith, z .entries, many) in
+        let after : replicate (256 - length (take n es)) blank ≡ drop n es = ap (λ (m : ℕ). replicate m blank) (sym rest) ∙ sym (blanks-are (drop n es) (v .clear)) in
+        let whole : take n es ++ replicate (256 - length (take n es)) blank ≡ es = ap (λ (l : List Entry). take n es ++ l) after ∙ take-append-drop n es in
+        let spare : replicate 256 0 ≡ t .spare = ap (λ (m : ℕ). replicate m 0) (sym (z .spare)) ∙ sym (zeros-are (t .spare) (v .spare)) in
+        λ i. record { entries = whole i; spare = spare i; starts = t .starts; bodies = t .bodies; keys = t .keys; cooling = t .cooling; racers = t .racers; head = head-read i }
+
+    source-in : (n : ℕ) → n ≤ suc max-seat → SoundSource (source-of n)
+    source-in zero h = tt
+    source-in (suc s) h = omega arith
+
+    -- and what is read is sound
+    sound-read : Sound (read t .clock) (read t)
+    unfolding read
+    sound-read = record {
+      clock = v .clock;
+      settings = v .settings;
+      keys = record { places = z .keys; most = all-bounded max-seat (t .keys) (v .keys) };
+      mean-least = v .mean-least;
+      mean-most = v .mean-most;
+      frontier = v .frontier;
+      high = record { blocks = omega (arith, length-live (v .few), v .blocks); bytes = v .bytes };
+      queue = record {
+        rising = is-rising (live t) (v .rises);
+        few = omega (arith, length-live (v .few), v .few);
+        each = all-each (word 2 t) (live t) (v .each);
+        total = v .total;
+        seats = z .starts;
+        starts = λ s k. let e : 0 + s ≡ s = omega arith in rw e at (starts-each (word 2 t) (live t) 0 (t .starts) (v .starts) s (omega (arith, z .starts)));
+        bodies = record { places = z .bodies; most = all-bounded (suc (word 2 t)) (t .bodies) (v .bodies) };
+      };
+      cooling = record { places = z .cooling; most = all-bounded (suc (word 2 t)) (t .cooling) (v .cooling) };
+      pace = record { mean = v .pace-mean; advance = v .advance; wait = v .wait };
+      races = record {
+        cold = v .cold .sound;
+        hedged = omega (arith, hedges-count, v .hedges);
+        preferred = source-in (word 25 t) (v .preferred);
+        probe = v .probe .sound (z .racers);
+        racers = record { places = z .racers; most = all-bounded 256 (t .racers) (v .racers) };
+        attempted = source-in (word 26 t) (v .attempted);
+      };
+      watch = record { stall = v .stall .sound; stuck = v .stuck .sound; observation = v .observation .sound };
+    }
+
+-- ---- the laws on words
+
+table-sized : (w : Window) → Sound (w .clock) w → Sized (table w)
+unfolding table pad
+table-sized w g = record {
+  entries = length-append (w .queue .pending) (replicate (256 - length (w .queue .pending)) blank)
+      ∙ omega (arith, length-replicate (256 - length (w .queue .pending)) blank, g .queue .few);
+  spare = length-replicate {A = ℕ} 256 0;
+  starts = g .queue .seats;
+  bodies = g .queue .bodies .places;
+  keys = g .keys .places;
+  cooling = g .cooling .places;
+  racers = g .races .racers .places;
+  head = groups w g .long;
+}
+
+-- a sound window's words: 4,096 of them, they count as a window, and read back
+pub record Encodes (w : Window) : Type 0 where
+  pub long : length (encode w) ≡ 4096
+  pub counts : is-window (encode w) ≡ true
+  pub back : window-of (encode w) ≡ w
+
+pub sound-words : (w : Window) → Sound (w .clock) w → Encodes w
+unfolding encode is-window window-of
+sound-words w g =
+    let z = table-sized w g in
+    let d = decode-flat (table w) z in
+    record { long = length-flat (table w) z; counts = ap valid d ∙ valid-table w g; back = ap read d ∙ read-table w g }
+
+-- words that count as a window are those of the window that is read from them, which is sound
+pub words-encode : (ws : List ℕ) → length ws ≡ 4096 → is-window ws ≡ true → encode (window-of ws) ≡ ws
+unfolding encode is-window window-of
+words-encode ws n e = let z = sized-decode ws n in ap flat (table-read (decode ws) z (facts (decode ws) z e)) ∙ flat-decode ws n
+
+pub words-sound : (ws : List ℕ) → length ws ≡ 4096 → is-window ws ≡ true → Sound (window-of ws .clock) (window-of ws)
+unfolding is-window window-of
+words-sound ws n e = let z = sized-decode ws n in sound-read (decode ws) z (facts (decode ws) z e)
