@@ -1,3 +1,6 @@
 pub mod Run
 pub mod Book
 pub mod Reports
+pub mod Lines
+pub mod Moves
+pub mod Steps
