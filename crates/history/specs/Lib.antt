@@ -4,3 +4,5 @@ pub mod Reports
 pub mod Lines
 pub mod Moves
 pub mod Steps
+pub mod Perms
+pub mod Places
