@@ -6,3 +6,4 @@ pub mod Moves
 pub mod Steps
 pub mod Perms
 pub mod Places
+pub mod Claim

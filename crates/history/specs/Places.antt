@@ -15,10 +15,14 @@ use Rattle.laws.specs.Numbers.{both}
 use Rattle.laws.specs.Bag.{weigh, weigh-append, Same, Pick, here, there}
 use Rattle.history.specs.Run.{Done}
 use Rattle.history.specs.Book.{Mark}
-use Rattle.history.specs.Reports.{Told, anew, counts, tells, places-by, places-at, names-place}
+use Rattle.history.specs.Reports.{Told, anew, counts, tells, places-by, places-at}
 use Rattle.history.specs.Lines.{naming, told}
 use Rattle.history.specs.Steps.{logs, log-of}
 use Rattle.history.specs.Perms.{hits, hits-self, find, Mark-discrete}
+
+-- 1 where a mark names the place k of the call i
+unfoldable pub names-place : ℕ → ℕ → Mark → ℕ
+names-place i k n = cond (eqb (n .call) i) (cond (eqb (n .place) k) 1 0) 0
 
 -- what the place of a mark holds
 abbrev pub held-by : Mark → Release

@@ -1,9 +1,10 @@
 -- What the calls' reports held when they returned, place by place. Definitions only.
-use mathlib.Core.Bool.{Bool, true, false, cond}
+use mathlib.Core.Path.{_≡_}
+use mathlib.Core.Bool.{Bool, true, false, cond, _&&_}
 use mathlib.Core.List.{List, [], _∷_, _++_}
-use Prim.Native.Nat.{ℕ, zero, suc}
+use Prim.Native.Nat.{ℕ, zero, suc, _≤_}
 use lib.Dec.{eqb}
-use lib.ListN.{length, take}
+use lib.ListN.{length, take, drop}
 use Rattle.model.specs.Refusals.{Call, opens, changes, queries}
 use Rattle.model.specs.Perform.{Answer, refused, says}
 use Rattle.model.specs.declared.Release.{Release}
@@ -39,6 +40,12 @@ unfoldable pub places-at : List Done → ℕ → List Release
 places-at [] i = []
 places-at (d ∷ h) i = places-by i (tells d) (length h) (places-at h i)
 
--- 1 where a mark names the place k of the call i
-unfoldable pub names-place : ℕ → ℕ → Mark → ℕ
-names-place i k n = cond (eqb (n .call) i) (cond (eqb (n .place) k) 1 0) 0
+-- a mark names the place k of the call i
+unfoldable pub names : ℕ → ℕ → Mark → Bool
+names i k n = eqb (n .call) i && eqb (n .place) k
+
+-- a report that a call was lent: it has as many places as it had, the count is among them, and after the count it is as it was lent
+pub record AsLent (d : Done) : Type 0 where
+  pub long : length (d .outcome .report) ≡ length (d .act .lent)
+  pub fits : count-of (d .outcome .answer) ≤ length (d .act .lent)
+  pub rest : drop (count-of (d .outcome .answer)) (d .outcome .report) ≡ drop (count-of (d .outcome .answer)) (d .act .lent)

@@ -24,7 +24,7 @@ use Rattle.laws.specs.Kept.{Fits, FitsChange, passed, Accepted, accepted-is, so
 use Rattle.laws.specs.Words.{Encodes, sound-words}
 use Rattle.history.specs.Run.{Act, Done, Run, run-step, run, on-words}
 use Rattle.history.specs.Book.{Line, Mark, pending-lines, marks, mark-all, add-lines, opens-entries, writes, own-by, Book, own-refusal, book-step, book, new-book}
-use Rattle.history.specs.Reports.{count-of, Told, anew, counts, tells-by, tells}
+use Rattle.history.specs.Reports.{count-of, Told, anew, counts, tells-by, tells, AsLent}
 use Rattle.history.specs.Lines.{Agree, told, agree-outs, agree-adds}
 use Rattle.history.specs.Moves.{Moves, change-moves, gone-room}
 
@@ -38,16 +38,9 @@ unfoldable pub log-of : List Done → List Mark
 log-of [] = []
 log-of (d ∷ h) = logs (length h) (tells d) (log-of h)
 
--- ---- a report after its count is as it was lent
-
-pub record Untouched (d : Done) : Type 0 where
-  pub fits : count-of (d .outcome .answer) ≤ length (d .act .lent)
-  pub long : length (d .outcome .report) ≡ length (d .act .lent)
-  pub rest : drop (count-of (d .outcome .answer)) (d .outcome .report) ≡ drop (count-of (d .outcome .answer)) (d .act .lent)
-
-abbrev pub AllUntouched : List Done → Type 0
-AllUntouched [] = Unit {0}
-AllUntouched (d ∷ h) = Untouched d × AllUntouched h
+abbrev pub AllAsLent : List Done → Type 0
+AllAsLent [] = Unit {0}
+AllAsLent (d ∷ h) = AsLent d × AllAsLent h
 
 -- ---- the invariant
 
@@ -59,14 +52,14 @@ pub record Sync (b : Book) (s : Run) : Type 0 where
   pub words : s .words ≡ encode (b .own)
   pub next : b .next ≡ length (s .done)
   pub inv : Inv (b .own) (b .lines) (log-of (s .done))
-  pub untouched : AllUntouched (s .done)
+  pub as-lent : AllAsLent (s .done)
 
 -- ---- a call whose outcome is o, on the words of the book's own window w
 
 pub record Goes (r i : ℕ) (a : Act) (w : Window) (ls : List Line) (log : List Mark) (o : Outcome) : Type 0 where
   pub words : o .words ≡ encode (own-by r (a .call) w)
   pub inv : Inv (own-by r (a .call) w) (writes r i (a .call) w ls) (logs i (tells-by (a .call) (o .answer) (o .report)) log)
-  pub untouched : Untouched (record { act = a; outcome = o })
+  pub as-lent : AsLent (record { act = a; outcome = o })
 
 -- nothing is told
 quiet : {w : Window} {ls : List Line} {log : List Mark} (i : ℕ) → Inv w ls log → Inv w ls (log ++ told i 0 [])
@@ -135,11 +128,11 @@ module _ (x : Change) (lent : List Release) (w : Window) where
       let k = changed-room p (v .sound) in
       let r = report-after (changed x w .gone) lent k in
       subst (λ (u : Window). Goes 0 i (record { call = changes x; lent = lent }) w ls log (deed-outcome u)) (sym (z .back))
-      (record { words = refl; inv = rw (r .0) (changed-inv i ls log f p v); untouched = record { fits = k; long = r .1; rest = r .2 } })
+      (record { words = refl; inv = rw (r .0) (changed-inv i ls log f p v); as-lent = record { fits = k; long = r .1; rest = r .2 } })
 
 -- ---- every call, by its refusal
 
-abbrev outcome-by : ℕ → Act → List ℕ → Outcome
+abbrev pub outcome-by : ℕ → Act → List ℕ → Outcome
 outcome-by r a ws = record {
   answer = answer-by r (a .call) ws;
   words = words-by r (a .call) ws;
@@ -153,11 +146,11 @@ performs a ws = refl
 goes-by : (r i : ℕ) (c : Call) (lent : List Release) (w : Window) (ls : List Line) (log : List Mark) → Fits c → refusal c (encode w) (length lent) ≡ r → Inv w ls log
     → Goes r i (record { call = c; lent = lent }) w ls log (outcome-by r (record { call = c; lent = lent }) (encode w))
 goes-by (suc n) i c lent w ls log f q v =
-    record { words = refl; inv = quiet i v; untouched = record { fits = omega arith; long = refl; rest = refl } }
+    record { words = refl; inv = quiet i v; as-lent = record { fits = omega arith; long = refl; rest = refl } }
 goes-by zero i (opens c b keys) lent w ls log f q v =
-    record { words = refl; inv = opened-inv c b keys (opens-sound c b keys (encode w) q); untouched = record { fits = omega arith; long = refl; rest = refl } }
+    record { words = refl; inv = opened-inv c b keys (opens-sound c b keys (encode w) q); as-lent = record { fits = omega arith; long = refl; rest = refl } }
 goes-by zero i (queries y) lent w ls log f q v =
-    record { words = refl; inv = quiet i v; untouched = record { fits = omega arith; long = refl; rest = refl } }
+    record { words = refl; inv = quiet i v; as-lent = record { fits = omega arith; long = refl; rest = refl } }
 goes-by zero i (changes x) lent w ls log f q v = change-goes x lent w i ls log f q v
 
 -- ---- every list of calls
@@ -179,7 +172,7 @@ sync-step a b s f y =
       words = g .words;
       next = ap suc (y .next);
       inv = rw (← (y .next)) (g .inv);
-      untouched = (g .untouched, y .untouched);
+      as-lent = (g .as-lent, y .as-lent);
     }
 
 pub runs : (acts : List Act) (b : Book) (s : Run) → AllFit acts → Sync b s → Sync (book acts b) (run acts s)
@@ -195,4 +188,4 @@ starts c b keys ws lent q =
     let a : Act = record { call = opens c b keys; lent = lent } in
     let o : perform (a .call) ws lent ≡ outcome-by 0 a ws = performs a ws ∙ ap (λ (r : ℕ). outcome-by r a ws) q in
     subst (λ (x : Outcome). Sync (new-book c b keys) (record { words = x .words; done = record { act = a; outcome = x } ∷ [] })) (sym o)
-    (record { words = refl; next = refl; inv = opened-inv c b keys (opens-sound c b keys ws q); untouched = (record { fits = omega arith; long = refl; rest = refl }, tt) })
+    (record { words = refl; next = refl; inv = opened-inv c b keys (opens-sound c b keys ws q); as-lent = (record { fits = omega arith; long = refl; rest = refl }, tt) })
