@@ -3,13 +3,12 @@
 use mathlib.Core.Bool.{Bool, true, false, cond}
 use mathlib.Core.List.{List, [], _∷_, _++_}
 use Prim.Native.Nat.{ℕ, zero, suc}
-use lib.ListN.{length}
+use lib.ListN.{length, replicate}
 use Rattle.model.specs.Hash.{same}
 use Rattle.model.specs.Window.{Window}
 use Rattle.model.specs.Records.{new-entry}
 use Rattle.model.specs.Calls.{Ask, asks-in, Fetching, held, staged, asked, no-capacity, owned-fetch, opened}
-use Rattle.model.specs.Layout.{encode}
-use Rattle.model.specs.Refusals.{Change, Call, opens, changes, queries, checks, refusal, requests, fetches, receives, credits, credits-duplicate, rejects, expires, requeues, releases, retires, retains, marks-unresponsive, confirms-probe, confirms-hedge, observes, sets-fanout, clears-preferred}
+use Rattle.model.specs.Refusals.{Change, Call, opens, changes, queries, checks, query-checks, refusal-at, opening-refusal, requests, fetches, receives, credits, credits-duplicate, rejects, expires, requeues, releases, retires, retains, marks-unresponsive, confirms-probe, confirms-hedge, observes, sets-fanout, clears-preferred}
 use Rattle.model.specs.Perform.{Deed, moment-of, changed, does}
 use Rattle.model.specs.declared.Hash.{Hash}
 use Rattle.model.specs.declared.Entry.{Entry}
@@ -122,16 +121,16 @@ pub record Book : Type 0 where
   pub next : ℕ
   pub lines : List Line
 
--- what is refused is said by the definitions over the words of the book's own window
-unfoldable pub own-refusal : Act → Book → ℕ
-own-refusal a b = refusal (a .call) (encode (b .own)) (length (a .lent))
+-- what is refused, by the definitions: of a change and a query on the book's own window, of an opening on any 4,096 words
+abbrev pub own-refusal : Call → Window → ℕ → ℕ
+own-refusal (opens c b keys) w room = opening-refusal c b keys (replicate 4096 0)
+own-refusal (changes x) w room = refusal-at (checks x) w room
+own-refusal (queries q) w room = refusal-at (query-checks q) w room
 
 unfoldable pub book-step : Act → Book → Book
-book-step a b = record {
-  own = own-by (own-refusal a b) (a .call) (b .own);
-  next = suc (b .next);
-  lines = writes (own-refusal a b) (b .next) (a .call) (b .own) (b .lines);
-}
+book-step a b =
+    let r = own-refusal (a .call) (b .own) (length (a .lent)) in
+    record { own = own-by r (a .call) (b .own); next = suc (b .next); lines = writes r (b .next) (a .call) (b .own) (b .lines) }
 
 unfoldable pub book : List Act → Book → Book
 book [] b = b

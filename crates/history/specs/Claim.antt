@@ -35,10 +35,11 @@ use Rattle.history.specs.Places.{names-place, log-once, log-true, same-m
 
 -- ws are the lent words after some calls, w the window that is read from them, b the book of these calls, h the calls as they were made
 pub record Claim (ws : List ℕ) (w : Window) (b : Book) (h : List Done) : Type 0 where
-  -- THE WORDS. There are 4,096 of them, they count as a window, and they are the words of the book's own window
+  -- THE WORDS. There are 4,096 of them, they count as a window, and they are the words of the book's own window, which is read from them
   pub long : length ws ≡ 4096
   pub counts : is-window ws ≡ true
   pub own : ws ≡ encode (b .own)
+  pub own-window : w ≡ b .own
   -- BYTES. The byte total in the lent words plus the estimates of the marked lines is the estimates of all lines
   pub adds-up : w .queue .total + sum (gone-lines (b .lines)) ≡ sum (opened-lines (b .lines))
   -- the words' total is the sum over their records
@@ -104,6 +105,7 @@ claim-of b s y =
       long = ap length (y .words) ∙ z .long;
       counts = ap is-window (y .words) ∙ z .counts;
       own = y .words;
+      own-window = refl;
       adds-up = omega (arith, g .queue .total, sum-weigh (w .queue .pending), sum-weigh (gone-lines ls), sum-weigh (opened-lines ls), lines-split estimate-of ls, a .same estimate-of);
       total = g .queue .total;
       records = same-perm Entry-discrete (w .queue .pending) (pending-lines ls) (a .same);

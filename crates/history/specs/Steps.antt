@@ -5,22 +5,22 @@ use mathlib.Core.Bool.{Bool, true, false, cond}
 use mathlib.Core.List.{List, [], _∷_, _++_, append-nil}
 use Prim.Native.Nat.{ℕ, zero, suc, _+_, _-_, _≤_, _<_}
 use native.Mathlib.Omega.{arith}
-use lib.ListN.{length, take, drop, length-append, length-drop}
+use lib.ListN.{length, take, drop, replicate, length-append, length-drop}
 use lib.Seq.{take-at, drop-at}
 use lib.Dec.{eqb}
-use borrow.Author.Tests.{eqb-true}
+use borrow.Author.Tests.{eq-eqb}
 use Rattle.model.specs.Window.{Window}
 use Rattle.model.specs.Calls.{opened}
 use Rattle.model.specs.Layout.{encode, window-of, is-window}
 use Rattle.model.specs.Queries.{Query}
-use Rattle.model.specs.Refusals.{Change, Call, opens, changes, queries, checks, refusal-at, window-refusal, opening-refusal, is-long, refusal}
+use Rattle.model.specs.Refusals.{Change, Call, opens, changes, queries, Checks, checks, query-checks, refusal-at, window-refusal, opening-refusal, refusal}
 use Rattle.model.specs.Perform.{Deed, change, moment-of, changed, does, Answer, refused, says, Outcome, words-by, gone-by, answer-by, words-after, gone-after, answer-after, perform}
 use Rattle.model.specs.declared.Entry.{Entry}
 use Rattle.model.specs.declared.Release.{Release}
 use Rattle.model.specs.declared.Settings.{Settings}
 use Rattle.laws.specs.Bag.{weigh, Same}
 use Rattle.laws.specs.Sound.{Sound}
-use Rattle.laws.specs.Kept.{Fits, FitsChange, passed, Accepted, accepted-is, sound-then, changed-sound, opens-sound}
+use Rattle.laws.specs.Kept.{Fits, FitsChange, Accepted, accepted-is, sound-then, changed-sound, opens-sound}
 use Rattle.laws.specs.Words.{Encodes, sound-words}
 use Rattle.history.specs.Run.{Act, Done, Run, run-step, run, on-words}
 use Rattle.history.specs.Book.{Line, Mark, pending-lines, marks, mark-all, add-lines, opens-entries, writes, own-by, Book, own-refusal, book-step, book, new-book}
@@ -86,14 +86,6 @@ report-after gs lent h = (
 
 -- the accepted change x of the window w
 module _ (x : Change) (lent : List Release) (w : Window) where
-  accepted-window : refusal (changes x) (encode w) (length lent) ≡ 0 → Sound (w .clock) w → refusal-at (checks x) w (length lent) ≡ 0
-  unfolding window-refusal
-  accepted-window q g =
-      let z = sound-words w g in
-      let a = passed 0 (is-long (encode w)) _ q in
-      let b = passed 1 (is-window (encode w)) (refusal-at (checks x) (window-of (encode w)) (length lent)) (a .1) in
-      rw (z .back) at (b .1)
-
   changed-inv : (i : ℕ) (ls : List Line) (log : List Mark) → FitsChange x → refusal-at (checks x) w (length lent) ≡ 0 → Inv w ls log
       → Inv (changed x w .window) (writes 0 i (changes x) w ls) (log ++ told i 0 (changed x w .gone))
   unfolding changed
@@ -120,15 +112,28 @@ module _ (x : Change) (lent : List Release) (w : Window) where
     report = changed x v .gone ++ drop (length (changed x v .gone)) lent;
   }
 
-  change-goes : (i : ℕ) (ls : List Line) (log : List Mark) → FitsChange x → refusal (changes x) (encode w) (length lent) ≡ 0 → Inv w ls log
+  change-goes : (i : ℕ) (ls : List Line) (log : List Mark) → FitsChange x → refusal-at (checks x) w (length lent) ≡ 0 → Inv w ls log
       → Goes 0 i (record { call = changes x; lent = lent }) w ls log (deed-outcome (window-of (encode w)))
   change-goes i ls log f q v =
       let z = sound-words w (v .sound) in
-      let p = accepted-window q (v .sound) in
-      let k = changed-room p (v .sound) in
+      let k = changed-room q (v .sound) in
       let r = report-after (changed x w .gone) lent k in
       subst (λ (u : Window). Goes 0 i (record { call = changes x; lent = lent }) w ls log (deed-outcome u)) (sym (z .back))
-      (record { words = refl; inv = rw (r .0) (changed-inv i ls log f p v); as-lent = record { fits = k; long = r .1; rest = r .2 } })
+      (record { words = refl; inv = rw (r .0) (changed-inv i ls log f q v); as-lent = record { fits = k; long = r .1; rest = r .2 } })
+
+-- ---- the words of a sound window are refused what the window is
+
+window-refusal-is : (k : Checks) (w : Window) (room : ℕ) → Sound (w .clock) w → window-refusal k (encode w) room ≡ refusal-at k w room
+unfolding window-refusal
+window-refusal-is k w room g =
+    let z = sound-words w g in
+    rw (eq-eqb (length (encode w)) 4096 (z .long), z .counts, z .back)
+
+refusal-is : (c : Call) (w : Window) (room : ℕ) → Sound (w .clock) w → refusal c (encode w) room ≡ own-refusal c w room
+unfolding opening-refusal
+refusal-is (opens c b keys) w room g = rw (eq-eqb (length (encode w)) 4096 (sound-words w g .long))
+refusal-is (changes x) w room g = window-refusal-is (checks x) w room g
+refusal-is (queries q) w room g = window-refusal-is (query-checks q) w room g
 
 -- ---- every call, by its refusal
 
@@ -143,12 +148,12 @@ pub performs : (a : Act) (ws : List ℕ) → perform (a .call) ws (a .lent) ≡ 
 unfolding perform words-after gone-after answer-after
 performs a ws = refl
 
-goes-by : (r i : ℕ) (c : Call) (lent : List Release) (w : Window) (ls : List Line) (log : List Mark) → Fits c → refusal c (encode w) (length lent) ≡ r → Inv w ls log
+goes-by : (r i : ℕ) (c : Call) (lent : List Release) (w : Window) (ls : List Line) (log : List Mark) → Fits c → own-refusal c w (length lent) ≡ r → Inv w ls log
     → Goes r i (record { call = c; lent = lent }) w ls log (outcome-by r (record { call = c; lent = lent }) (encode w))
 goes-by (suc n) i c lent w ls log f q v =
     record { words = refl; inv = quiet i v; as-lent = record { fits = omega arith; long = refl; rest = refl } }
 goes-by zero i (opens c b keys) lent w ls log f q v =
-    record { words = refl; inv = opened-inv c b keys (opens-sound c b keys (encode w) q); as-lent = record { fits = omega arith; long = refl; rest = refl } }
+    record { words = refl; inv = opened-inv c b keys (opens-sound c b keys (replicate 4096 0) q); as-lent = record { fits = omega arith; long = refl; rest = refl } }
 goes-by zero i (queries y) lent w ls log f q v =
     record { words = refl; inv = quiet i v; as-lent = record { fits = omega arith; long = refl; rest = refl } }
 goes-by zero i (changes x) lent w ls log f q v = change-goes x lent w i ls log f q v
@@ -160,11 +165,12 @@ AllFit [] = Unit {0}
 AllFit (a ∷ rest) = Fits (a .call) × AllFit rest
 
 sync-step : (a : Act) (b : Book) (s : Run) → Fits (a .call) → Sync b s → Sync (book-step a b) (run-step a s)
-unfolding book-step run-step own-refusal log-of tells
+unfolding book-step run-step log-of tells
 sync-step a b s f y =
-    let r = refusal (a .call) (encode (b .own)) (length (a .lent)) in
+    let r = own-refusal (a .call) (b .own) (length (a .lent)) in
     let o : perform (a .call) (s .words) (a .lent) ≡ outcome-by r a (encode (b .own)) =
-    ap (λ (ws : List ℕ). perform (a .call) ws (a .lent)) (y .words) ∙ performs a (encode (b .own)) in
+    ap (λ (ws : List ℕ). perform (a .call) ws (a .lent)) (y .words) ∙ performs a (encode (b .own))
+    ∙ ap (λ (n : ℕ). outcome-by n a (encode (b .own))) (refusal-is (a .call) (b .own) (length (a .lent)) (y .inv .sound)) in
     let g : Goes r (b .next) a (b .own) (b .lines) (log-of (s .done)) (perform (a .call) (s .words) (a .lent)) =
     subst (λ (x : Outcome). Goes r (b .next) a (b .own) (b .lines) (log-of (s .done)) x) (sym o)
     (goes-by r (b .next) (a .call) (a .lent) (b .own) (b .lines) (log-of (s .done)) f refl (y .inv)) in
