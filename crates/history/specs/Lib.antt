@@ -7,3 +7,4 @@ pub mod Steps
 pub mod Perms
 pub mod Places
 pub mod Claim
+pub mod Examples
