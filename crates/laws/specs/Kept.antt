@@ -115,11 +115,11 @@ requestable-is l w q =
       room = omega (arith, leb-true (length (w .queue .pending) + length l) max-pending (b .0));
     }
 
-body-le : (bytes : ℕ) (w : Window) → body-refusal bytes w ≡ 0 → bytes ≤ max-body
+pub body-le : (bytes : ℕ) (w : Window) → body-refusal bytes w ≡ 0 → bytes ≤ max-body
 unfolding body-refusal
 body-le bytes w q = leb-true bytes max-body (passed 8 (leb bytes max-body) 0 q .0)
 
-seat-le : (s : ℕ) → seat-ok s ≡ true → s ≤ max-seat
+pub seat-le : (s : ℕ) → seat-ok s ≡ true → s ≤ max-seat
 seat-le s q = leb-true s max-seat q
 
 -- ---- a change, at its moment
