@@ -1,0 +1,220 @@
+// Whether 4,096 lent words are a window: the model's specs/Layout.antt says how they lie. It reads the words once: OR over what must be 0; one loop over
+// the records, which fills the table of each seat's oldest request; one loop of bits, with no exit, over the seats.
+ghost use mathlib.Core.Path.{_≡_};
+ghost use mathlib.Core.Bool.{_&&_};
+ghost use Prim.Native.Nat.{ℕ, _+_, _≤_, _<_, _^_};
+ghost use lib.ListN.{length, getD};
+ghost use lib.Dec.{eqb, ltb, leb};
+ghost use Rattle.model.specs.Layout.{is-window};
+ghost use Rattle.model.specs.Refusals.{is-long};
+ghost use Rattle.facts.specs.Words.{count, clock, blank-at, tails-zero, unused-zero, fields-fit, rises, records-fit, total-fits, earlier, oldest-of, start-by, most-raced, seat-by, seats-fit};
+
+fn to_usize(x: u64) -> usize
+    ensures { λ r. ⌜ r ≡ x ⌝ }
+{
+    x as usize
+}
+
+// ---- what must be 0
+
+// OR of the eight words of place i.
+fn place(w: &[u64], i: usize) -> u64
+    requires { ⌜ (length (now w) ≡ 4096) × (i < 256) ⌝ }
+    ensures { λ r. ⌜ eqb r 0 ≡ blank-at (now (w .entry)) i ⌝ }
+{
+    w[i]
+        | w[256 + i]
+        | w[512 + i]
+        | w[768 + i]
+        | w[1024 + i]
+        | w[1280 + i]
+        | w[1536 + i]
+        | w[1792 + i]
+}
+
+// OR of the places after the records.
+fn tails(w: &[u64]) -> u64
+    requires { ⌜ (length (now w) ≡ 4096) × (count (now w) ≤ 256) ⌝ }
+    ensures { λ r. ⌜ eqb r 0 ≡ tails-zero (now (w .entry)) ⌝ }
+{
+    let n = to_usize(w[3585]);
+    let m = 256 - n;
+    let mut acc: u64 = 0;
+    for k in 0..m {
+        acc = acc | place(w, n + k);
+    }
+    acc
+}
+
+// The places after the records and the words kept for a ninth column.
+fn unused(w: &[u64]) -> bool
+    requires { ⌜ (length (now w) ≡ 4096) × (count (now w) ≤ 256) ⌝ }
+    ensures { λ r. ⌜ r ≡ unused-zero (now (w .entry)) ⌝ }
+{
+    let t = tails(w);
+    let u = check_head::any_bits(w, 2048, 256);
+    (t | u) == 0
+}
+
+// ---- records
+
+// Whether the hash of record i is above the one before.
+fn rising(w: &[u64], i: usize) -> bool
+    requires { ⌜ (length (now w) ≡ 4096) × (i < 256) ⌝ }
+    ensures { λ r. ⌜ r ≡ rises (now (w .entry)) i ⌝ }
+{
+    if i == 0 {
+        return true;
+    }
+    let j = i - 1;
+    hash::less_words(
+        w[j],
+        w[256 + j],
+        w[512 + j],
+        w[768 + j],
+        w[i],
+        w[256 + i],
+        w[512 + i],
+        w[768 + i],
+    )
+}
+
+// The ranges of record i.
+fn fields(w: &[u64], i: usize) -> bool
+    requires { ⌜ (length (now w) ≡ 4096) × (i < 256) ⌝ }
+    ensures { λ r. ⌜ r ≡ fields-fit (now (w .entry)) i ⌝ }
+{
+    let x = w[1792 + i];
+    (w[1024 + i] <= 255)
+        & (w[1280 + i] <= w[3586])
+        & (w[1536 + i] <= 0xffff_ffff)
+        & (80 <= x)
+        & (x <= 0xffff_ffff)
+}
+
+// The earlier of the time t and the stored time m.
+fn sooner(t: u64, m: u64) -> u64
+    requires { ⌜ t ≤ 4611686018427387904 ⌝ }
+    ensures { λ r. ⌜ r ≡ earlier t m ⌝ }
+{
+    let d = std::num::wrapping_sub_u64(m, 1);
+    if t < d {
+        return t + 1;
+    }
+    m
+}
+
+// ---- seats: a word's top bit says what is wrong
+
+// No top bit exactly when x is at most max.
+fn over(max: u64, x: u64) -> u64
+    requires { ⌜ max < 2 ^ 63 ⌝ }
+    ensures { λ r. ⌜ ltb r (2 ^ 63) ≡ leb x max ⌝ }
+{
+    x | std::num::wrapping_sub_u64(max, x)
+}
+
+// No top bit exactly when the start a fits a seat whose oldest record is from g.
+fn start_top(latest: u64, g: u64, a: u64) -> u64
+    requires { ⌜ (latest < 2 ^ 63) × (g < 2 ^ 63) ⌝ }
+    ensures { λ r. ⌜ ltb r (2 ^ 63) ≡ start-by latest g a ⌝ }
+{
+    let o = over(latest, a);
+    let x = std::num::wrapping_sub_u64(a, g);
+    let y = std::num::wrapping_sub_u64(0, a);
+    let z = std::num::wrapping_sub_u64(g, 1);
+    o | x | (y & z)
+}
+
+fn seat_top(latest: u64, most: u64, g: u64, a: u64, l: u64, k: u64, c: u64, p: u64) -> u64
+    requires { ⌜ (latest < 2 ^ 63) × (most < 2 ^ 63) × (g < 2 ^ 63) ⌝ }
+    ensures { λ r. ⌜ ltb r (2 ^ 63) ≡ seat-by latest most g a l k c p ⌝ }
+{
+    let t = start_top(latest, g, a);
+    let u = over(latest, l);
+    let v = over(255, k);
+    let x = over(latest, c);
+    let y = over(most, p);
+    t | u | v | x | y
+}
+
+// The greatest racer word, by the probe's first.
+fn raced(since: u64) -> u64
+    ensures { λ r. ⌜ (r ≡ most-raced since) × (r < 2 ^ 63) ⌝ }
+{
+    if since == 0 {
+        return 0;
+    }
+    256
+}
+
+// The tables, in one loop with no exit.
+fn seats(w: &[u64], first: &[u64; 256]) -> bool
+    requires { ⌜ (length (now w) ≡ 4096) × (clock (now w) ≤ 4611686018427387904) ⌝ }
+    requires { ⌜ ((s : ℕ) → getD (now first) s 0 ≡ oldest-of (now w) s (count (now w))) ⌝ }
+    requires { ⌜ ((s : ℕ) → getD (now first) s 0 < 2 ^ 63) ⌝ }
+    ensures { λ r. ⌜ r ≡ seats-fit (now (w .entry)) ⌝ }
+{
+    let latest = w[3586] + 1;
+    let most = raced(w[3645]);
+    let mut acc: u64 = 0;
+    for s in 0..256 {
+        let t = seat_top(
+            latest,
+            most,
+            first[s],
+            w[2304 + s],
+            w[2560 + s],
+            w[2816 + s],
+            w[3072 + s],
+            w[3328 + s],
+        );
+        acc = acc | t;
+    }
+    acc < 0x8000_0000_0000_0000
+}
+
+// Records in one loop, which fills the table of each seat's oldest; then the seats.
+fn records(w: &[u64]) -> bool
+    requires { ⌜ (length (now w) ≡ 4096) × (count (now w) ≤ 256) × (clock (now w) ≤ 4611686018427387904) ⌝ }
+    ensures { λ r. ⌜ r ≡ (records-fit (now (w .entry)) && total-fits (now (w .entry)) && seats-fit (now (w .entry))) ⌝ }
+{
+    let n = to_usize(w[3585]);
+    let mut first = [0u64; 256];
+    let mut sum: u64 = 0;
+    for i in 0..n {
+        if !fields(w, i) {
+            return false;
+        }
+        if !rising(w, i) {
+            return false;
+        }
+        let s = to_usize(w[1024 + i]);
+        let t = w[1280 + i];
+        let m = first[s];
+        first[s] = sooner(t, m);
+        sum = sum + w[1792 + i];
+    }
+    if sum != w[3587] {
+        return false;
+    }
+    seats(w, &first)
+}
+
+// ---- all of it
+
+// Whether the words count as a window, however many they are.
+pub fn is_window(words: &[u64]) -> bool
+    ensures { λ r. ⌜ r ≡ (is-long (now (words .entry)) && is-window (now (words .entry))) ⌝ }
+{
+    if words.len() != 4096 {
+        return false;
+    }
+    if !check_head::head(words) {
+        return false;
+    }
+    if !unused(words) {
+        return false;
+    }
+    records(words)
+}

@@ -1,0 +1,12 @@
+pub mod Flags
+pub mod Words
+pub mod Bits
+pub mod Head
+pub mod Oldest
+pub mod Lists
+pub mod Sound
+pub mod Entries
+pub mod Seats
+pub mod Whole
+pub mod Facts
+pub mod Frame

@@ -1,0 +1,1 @@
+// What the words of a window say, word by word. No code.
