@@ -87,9 +87,7 @@ impl Original {
             return Vec::new();
         };
         let active = self.window.active_downloading_peers();
-        (0..=u8::MAX)
-            .filter(|seat| self.window.owner_download_expired(self.source(*seat), active, self.at(*clock)))
-            .collect()
+        (0..=u8::MAX).filter(|seat| self.window.owner_download_expired(self.source(*seat), active, self.at(*clock))).collect()
     }
 
     /// 01's report: what is no longer in the map, with its reason.
@@ -108,9 +106,17 @@ impl Original {
         match call {
             Call::MarkRequested { clock, owner, entries, next_request_height, byte_headroom, count_headroom } => {
                 let owner = self.source(*owner);
-                let entries = entries.iter().map(|(hash, height)| PeerRequestEntry { hash: original_hash(*hash), height: *height }).collect();
+                let entries = entries
+                    .iter()
+                    .map(|(hash, height)| PeerRequestEntry { hash: original_hash(*hash), height: *height })
+                    .collect();
                 let request = PeerRequest { owner, entries, next_request_height: *next_request_height };
-                Answer::Flag(self.window.mark_requested(&headroom(*byte_headroom, *count_headroom), &request, owner, self.at(*clock)))
+                Answer::Flag(self.window.mark_requested(
+                    &headroom(*byte_headroom, *count_headroom),
+                    &request,
+                    owner,
+                    self.at(*clock),
+                ))
             }
             Call::MarkOwnedFetch { .. } => self.mark_owned_fetch(call),
             Call::ConfirmPrefixProbe { clock, owner, hashes, alternates } => {
@@ -244,9 +250,11 @@ impl Original {
             Call::MaxPendingBlocks => Answer::Number(window.max_pending_blocks() as u64),
             Call::MinPeersForFanout => Answer::Number(window.min_peers_for_fanout() as u64),
             Call::EffectivePeerInflight => Answer::Number(window.effective_peer_inflight() as u64),
-            Call::StallingPeer => Answer::MaybePair(window.stalling_peer().map(|(endpoint, since)| {
-                (endpoint.map_or(u64::MAX, |key| u64::from(key.0)), self.clock(since))
-            })),
+            Call::StallingPeer => Answer::MaybePair(
+                window
+                    .stalling_peer()
+                    .map(|(endpoint, since)| (endpoint.map_or(u64::MAX, |key| u64::from(key.0)), self.clock(since))),
+            ),
             Call::PreferredPeer => Answer::MaybeNumber(window.preferred_peer().map(|peer| u64::from(peer.seat))),
             Call::PrefixProbePlan => Answer::Planned(window.prefix_probe_plan().map(|(owner, hashes, end_height)| Plan {
                 owner: owner.seat,
@@ -288,8 +296,12 @@ impl Original {
             Call::PeerInStallerCooldown { source, clock } => {
                 Answer::Flag(window.peer_in_staller_cooldown(self.source(*source), self.at(*clock)))
             }
-            Call::ProbeOffered { source, hash } => Answer::Flag(window.probe_offered(self.source(*source), &original_hash(*hash))),
-            Call::HedgeOffered { source, hash } => Answer::Flag(window.hedge_offered(self.source(*source), &original_hash(*hash))),
+            Call::ProbeOffered { source, hash } => {
+                Answer::Flag(window.probe_offered(self.source(*source), &original_hash(*hash)))
+            }
+            Call::HedgeOffered { source, hash } => {
+                Answer::Flag(window.hedge_offered(self.source(*source), &original_hash(*hash)))
+            }
             Call::ContainsPending { hash } => Answer::Flag(window.contains_pending(&original_hash(*hash))),
             Call::PendingOwner { hash } => {
                 Answer::MaybeNumber(window.pending_owner(&original_hash(*hash)).map(|owner| u64::from(owner.seat)))
@@ -324,7 +336,9 @@ fn reason(call: &Call, entry: &Entry, before: &State, expired: &[Seat]) -> Reaso
 /// A hedge lost ends the prefix race, so a body decides one of the two.
 fn race_lost(before: &State, hash: calls::Hash, source: Option<Seat>) -> Reason {
     match before.cold_front {
-        Some(calls::ColdFront::Racing { alternate, hash: racing, .. }) if racing == hash && source == Some(alternate) => Reason::HedgeLost,
+        Some(calls::ColdFront::Racing { alternate, hash: racing, .. }) if racing == hash && source == Some(alternate) => {
+            Reason::HedgeLost
+        }
         _ => Reason::PrefixRaceLost,
     }
 }

@@ -6,7 +6,13 @@ use crate::text;
 
 /// Drives a window through a seed's calls and shows each with the outcome before and after it.
 /// Returns how many sequences were begun.
-pub fn run(window: &mut dyn Window, seed: u64, profile: Profile, calls: u64, mut each: impl FnMut(Option<&Outcome>, &Call, &Outcome)) -> u64 {
+pub fn run(
+    window: &mut dyn Window,
+    seed: u64,
+    profile: Profile,
+    calls: u64,
+    mut each: impl FnMut(Option<&Outcome>, &Call, &Outcome),
+) -> u64 {
     let mut generator = Generator::new(seed, profile);
     let mut last: Option<Outcome> = None;
     for _ in 0..calls {
@@ -30,7 +36,13 @@ pub struct Difference {
 }
 
 /// Drives both windows by the calls that the first one's outcomes lead to; returns the sequences begun.
-pub fn first_difference(left: &mut dyn Window, right: &mut dyn Window, seed: u64, profile: Profile, calls: u64) -> Result<u64, Box<Difference>> {
+pub fn first_difference(
+    left: &mut dyn Window,
+    right: &mut dyn Window,
+    seed: u64,
+    profile: Profile,
+    calls: u64,
+) -> Result<u64, Box<Difference>> {
     let mut generator = Generator::new(seed, profile);
     let mut last: Option<Outcome> = None;
     let mut sequence: Vec<Call> = Vec::new();

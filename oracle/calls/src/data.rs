@@ -52,23 +52,95 @@ pub struct Settings {
 #[derive(Clone, Debug, PartialEq, Eq)]
 pub enum Call {
     // The calls.
-    Open { clock: Clock, settings: Settings, keys: Vec<u8> },
-    MarkRequested { clock: Clock, owner: Seat, entries: Vec<(Hash, u32)>, next_request_height: u32, byte_headroom: u64, count_headroom: u64 },
-    MarkOwnedFetch { clock: Clock, owner: Seat, hash: Hash, height: u32, staged: bool, byte_headroom: u64, count_headroom: u64 },
-    MarkReceivedFrom { clock: Clock, hash: Hash, bytes: u64, source: Option<Seat> },
-    CreditDeliveryFrom { clock: Clock, hash: Hash, source: Seat, pending_height: Option<u32> },
-    CreditDuplicateDelivery { hash: Hash, source: Seat },
-    RejectDelivery { clock: Clock, hash: Hash, source: Option<Seat> },
-    ExpirePending { clock: Clock },
-    RequeueForRetry { clock: Clock, hash: Hash, height: Option<u32> },
-    ReleasePending { clock: Clock, hash: Hash },
-    RetireBefore { clock: Clock, height: u32 },
-    RetainOwnedBy { owns: Vec<bool> },
-    MarkPeerUnresponsive { clock: Clock, source: Seat },
-    ConfirmPrefixProbe { clock: Clock, owner: Seat, hashes: Vec<Hash>, alternates: Vec<Seat> },
-    ConfirmColdFrontHedge { owner: Seat, alternate: Seat, hash: Hash },
-    ObserveBlocked { clock: Clock, next_apply_height: Option<u32>, frontier_hash: Option<Hash>, busy: bool, staged_count: u64, staged_height: Option<u32> },
-    SetFanoutEligiblePeers { clock: Clock, count: u64 },
+    Open {
+        clock: Clock,
+        settings: Settings,
+        keys: Vec<u8>,
+    },
+    MarkRequested {
+        clock: Clock,
+        owner: Seat,
+        entries: Vec<(Hash, u32)>,
+        next_request_height: u32,
+        byte_headroom: u64,
+        count_headroom: u64,
+    },
+    MarkOwnedFetch {
+        clock: Clock,
+        owner: Seat,
+        hash: Hash,
+        height: u32,
+        staged: bool,
+        byte_headroom: u64,
+        count_headroom: u64,
+    },
+    MarkReceivedFrom {
+        clock: Clock,
+        hash: Hash,
+        bytes: u64,
+        source: Option<Seat>,
+    },
+    CreditDeliveryFrom {
+        clock: Clock,
+        hash: Hash,
+        source: Seat,
+        pending_height: Option<u32>,
+    },
+    CreditDuplicateDelivery {
+        hash: Hash,
+        source: Seat,
+    },
+    RejectDelivery {
+        clock: Clock,
+        hash: Hash,
+        source: Option<Seat>,
+    },
+    ExpirePending {
+        clock: Clock,
+    },
+    RequeueForRetry {
+        clock: Clock,
+        hash: Hash,
+        height: Option<u32>,
+    },
+    ReleasePending {
+        clock: Clock,
+        hash: Hash,
+    },
+    RetireBefore {
+        clock: Clock,
+        height: u32,
+    },
+    RetainOwnedBy {
+        owns: Vec<bool>,
+    },
+    MarkPeerUnresponsive {
+        clock: Clock,
+        source: Seat,
+    },
+    ConfirmPrefixProbe {
+        clock: Clock,
+        owner: Seat,
+        hashes: Vec<Hash>,
+        alternates: Vec<Seat>,
+    },
+    ConfirmColdFrontHedge {
+        owner: Seat,
+        alternate: Seat,
+        hash: Hash,
+    },
+    ObserveBlocked {
+        clock: Clock,
+        next_apply_height: Option<u32>,
+        frontier_hash: Option<Hash>,
+        busy: bool,
+        staged_count: u64,
+        staged_height: Option<u32>,
+    },
+    SetFanoutEligiblePeers {
+        clock: Clock,
+        count: u64,
+    },
     ClearPreferredPeer,
     // The queries.
     FanoutActive,
@@ -77,29 +149,60 @@ pub enum Call {
     PendingHighWater,
     MaxPendingBlocks,
     MinPeersForFanout,
-    HasRequestCapacity { byte_headroom: u64, count_headroom: u64 },
-    ComputeRequestCapacity { source: Seat, byte_headroom: u64, count_headroom: u64 },
+    HasRequestCapacity {
+        byte_headroom: u64,
+        count_headroom: u64,
+    },
+    ComputeRequestCapacity {
+        source: Seat,
+        byte_headroom: u64,
+        count_headroom: u64,
+    },
     EffectivePeerInflight,
-    ExpiredPendingCapacity { clock: Clock },
-    PeerHasExpiredPending { source: Seat, clock: Clock },
-    PeerInStallerCooldown { source: Seat, clock: Clock },
+    ExpiredPendingCapacity {
+        clock: Clock,
+    },
+    PeerHasExpiredPending {
+        source: Seat,
+        clock: Clock,
+    },
+    PeerInStallerCooldown {
+        source: Seat,
+        clock: Clock,
+    },
     StallingPeer,
     PreferredPeer,
-    ProbeOffered { source: Seat, hash: Hash },
-    HedgeOffered { source: Seat, hash: Hash },
+    ProbeOffered {
+        source: Seat,
+        hash: Hash,
+    },
+    HedgeOffered {
+        source: Seat,
+        hash: Hash,
+    },
     PrefixProbePlan,
-    ContainsPending { hash: Hash },
-    PendingOwner { hash: Hash },
-    IsDownloading { owner: Seat },
+    ContainsPending {
+        hash: Hash,
+    },
+    PendingOwner {
+        hash: Hash,
+    },
+    IsDownloading {
+        owner: Seat,
+    },
     ActiveDownloadingPeers,
     EffectiveOwnerTimeout,
     StallDecayFloor,
-    PendingCountFor { source: Seat },
+    PendingCountFor {
+        source: Seat,
+    },
     RequestCursor,
     StallTimeout,
     FrontIntervalEwmaMs,
     EwmaBlockBytes,
-    OwnerQueueStart { owner: Seat },
+    OwnerQueueStart {
+        owner: Seat,
+    },
     ProbeStartedAt,
 }
 

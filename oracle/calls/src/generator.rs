@@ -118,7 +118,7 @@ impl Generator {
         match &last.answer {
             Answer::Planned(Some(plan)) if self.random.chance(80) => Some(self.confirm_plan(&last.state, plan)),
             Answer::Decided(Decision::HedgeColdFront { owner, front_hash }) if self.random.chance(75) => {
-                let alternate = if self.random.chance(12) { *owner } else { self.seat(&last.state) };
+                let alternate = if self.random.chance(15) { *owner } else { self.world.other_seat(&mut self.random, *owner) };
                 Some(Call::ConfirmColdFrontHedge { owner: *owner, alternate, hash: *front_hash })
             }
             _ => None,
@@ -141,32 +141,35 @@ impl Generator {
     fn weights(&self, state: &State) -> [(Action, u64); 19] {
         let theme = self.world.theme;
         let pending = state.pending.len() as u64;
-        let racing = state.prefix_probe.is_some() || matches!(state.cold_front, Some(ColdFront::Racing { .. }));
-        let watching = state.stall.is_some() || state.cold_front.is_some() || state.pending_timeout_observation.is_some();
-        let want_entries = if pending == 0 { 40 } else if pending < self.world.table { 14 } else { 1 };
+        let probe = state.prefix_probe.is_some();
+        let racing = probe || matches!(state.cold_front, Some(ColdFront::Racing { .. }));
+        let waiting = matches!(state.cold_front, Some(ColdFront::Waiting { .. }));
+        let observed = state.pending_timeout_observation.is_some();
+        let watched = state.stall.is_some() || state.cold_front.is_some() || observed || probe;
         let bodies = theme == Theme::LightBodies || theme == Theme::HeavyBodies;
         let races = theme == Theme::Races;
-        let can_plan = races && state.preferred_peer.is_none() && state.prefix_probe.is_none() && pending >= 4;
+        let can_plan = races && state.preferred_peer.is_none() && !probe && pending >= 4;
+        let fanout = theme == Theme::Capacity || probe || (races && state.fanout_engaged);
         [
-            (Action::Request, want_entries),
+            (Action::Request, when(pending == 0, 40, when(pending < self.world.table, 14, 1))),
             (Action::OwnedFetch, 5),
-            (Action::Deliver, if bodies { 150 } else if racing { 30 } else { 14 }),
-            (Action::Credit, if racing { 16 } else { 4 }),
-            (Action::Duplicate, if state.pending_timeout_observation.is_some() { 6 } else { 1 }),
+            (Action::Deliver, when(bodies, 150, when(racing, 30, 14))),
+            (Action::Credit, when(racing, 16, 4)),
+            (Action::Duplicate, when(observed, 6, 1)),
             (Action::Reject, 5),
-            (Action::Sweep, if theme == Theme::TimeOuts { 14 } else { 4 }),
+            (Action::Sweep, when(theme == Theme::TimeOuts, 14, 4)),
             (Action::Retry, 4),
             (Action::Release, 3),
             (Action::Retire, 2),
-            (Action::Retain, if racing { 5 } else { 3 }),
+            (Action::Retain, when(racing, 5, 3)),
             (Action::Unresponsive, 3),
-            (Action::Plan, if can_plan { 40 } else { 3 }),
-            (Action::ConfirmProbe, if races { 3 } else { 1 }),
-            (Action::ConfirmHedge, if matches!(state.cold_front, Some(ColdFront::Waiting { .. })) { 5 } else { 1 }),
-            (Action::Observe, if theme.watches() { 30 } else if watching { 16 } else { 7 }),
-            (Action::Fanout, if theme == Theme::Capacity || state.prefix_probe.is_some() { 8 } else { 2 }),
-            (Action::ClearPreferred, if state.preferred_peer.is_some() { 6 } else { 1 }),
-            (Action::Query, if theme == Theme::Capacity { 25 } else { 9 }),
+            (Action::Plan, when(can_plan, 40, 3)),
+            (Action::ConfirmProbe, when(races, 3, 1)),
+            (Action::ConfirmHedge, when(waiting, 5, 1)),
+            (Action::Observe, when(theme.watches(), 30, when(watched, 16, 7))),
+            (Action::Fanout, when(fanout, 8, 2)),
+            (Action::ClearPreferred, when(state.preferred_peer.is_some(), 6, 1)),
+            (Action::Query, when(theme == Theme::Capacity, 25, when(racing, 12, 9))),
         ]
     }
 
@@ -192,7 +195,7 @@ impl Generator {
         let top = entries.iter().map(|(_, height)| *height).max().unwrap_or(self.world.base);
         let above = top.saturating_add(1);
         let next_request_height = self.random.pick(&[above, above, above, above, 0, top, state.next_request_height, u32::MAX]);
-        let (byte_headroom, count_headroom) = self.headrooms(state.ewma_block_bytes);
+        let (byte_headroom, count_headroom) = self.headrooms(state);
         Call::MarkRequested { clock: self.clock(state, &[]), owner, entries, next_request_height, byte_headroom, count_headroom }
     }
 
@@ -206,7 +209,7 @@ impl Generator {
             None => self.world.height_of(&mut self.random, hash),
         };
         let staged = self.random.chance(20);
-        let (byte_headroom, count_headroom) = self.headrooms(state.ewma_block_bytes);
+        let (byte_headroom, count_headroom) = self.headrooms(state);
         Call::MarkOwnedFetch { clock: self.clock(state, &[]), owner, hash, height, staged, byte_headroom, count_headroom }
     }
 
@@ -242,6 +245,13 @@ impl Generator {
     }
 
     fn reject(&mut self, state: &State) -> Call {
+        if let Some(ColdFront::Racing { owner, alternate, hash }) = state.cold_front
+            && self.random.chance(60)
+        {
+            let third = self.world.other_seat(&mut self.random, owner);
+            let source = self.random.pick(&[Some(owner), Some(alternate), Some(third), None]);
+            return Call::RejectDelivery { clock: self.clock(state, &[]), hash, source };
+        }
         let hash = self.hash(state);
         let owner = state.pending.iter().find(|entry| entry.hash == hash).map(|entry| entry.owner);
         let source = match self.random.below(10) {
@@ -287,7 +297,12 @@ impl Generator {
             1 => {}
             2..=3 => owns.iter_mut().for_each(|owned| *owned = self.random.chance(60)),
             _ => {
-                let lost = self.seat(state);
+                let mut lost = self.seat(state);
+                if let Some(ColdFront::Racing { owner, alternate, .. }) = state.cold_front
+                    && self.random.chance(60)
+                {
+                    lost = self.random.pick(&[owner, alternate]);
+                }
                 owns[usize::from(lost)] = false;
                 if self.random.chance(20) {
                     owns[usize::from(self.seat(state))] = false;
@@ -300,7 +315,8 @@ impl Generator {
     fn confirm_plan(&mut self, state: &State, plan: &Plan) -> Call {
         let mut hashes = plan.hashes.clone();
         let mut owner = plan.owner;
-        let mut alternates: Vec<Seat> = (0..1 + self.random.below(3)).map(|_| self.world.seat(&mut self.random)).collect();
+        let mut alternates: Vec<Seat> =
+            (0..1 + self.random.below(3)).map(|_| self.world.other_seat(&mut self.random, owner)).collect();
         match self.random.below(14) {
             0 => alternates.clear(),
             1 => alternates = vec![owner],
@@ -331,7 +347,7 @@ impl Generator {
             owner = if self.random.chance(80) { waiting } else { owner };
             hash = if self.random.chance(80) { front } else { hash };
         }
-        let alternate = if self.random.chance(15) { owner } else { self.seat(state) };
+        let alternate = if self.random.chance(15) { owner } else { self.world.other_seat(&mut self.random, owner) };
         Call::ConfirmColdFrontHedge { owner, alternate, hash }
     }
 
@@ -342,9 +358,11 @@ impl Generator {
         let stuck = state.apply_side_stuck;
         let next_apply_height = match self.random.below(20) {
             0 => None,
-            1..=2 => self.random.maybe(&heights),
-            3 => Some(self.world.base.saturating_sub(1)),
-            4..=5 => Some(stuck.map_or(lowest, |stuck| stuck.height)),
+            1..=3 => self.random.maybe(&heights),
+            _ if matches!(state.cold_front, Some(ColdFront::Waiting { .. })) => self.waiting_height(state).or(Some(lowest)),
+            6..=9 if state.prefix_probe.is_some() => late_probed_height(state).or(Some(lowest)),
+            4 => Some(self.world.base.saturating_sub(1)),
+            5 => Some(stuck.map_or(lowest, |stuck| stuck.height)),
             _ => Some(lowest),
         };
         let frontier_hash = match self.random.below(10) {
@@ -357,21 +375,52 @@ impl Generator {
         let half = state.settings.max_received_blocks / 2;
         let staged_count = self.random.pick(&[half, half, half + 1, half.saturating_sub(1), 0, MAX_COUNT, u64::MAX]);
         let above = lowest.saturating_add(1);
-        let staged_height = self.random.pick(&[Some(above), Some(above), Some(above), Some(u32::MAX), Some(lowest), Some(lowest.saturating_sub(1)), None]);
+        let staged_height = self.random.pick(&[
+            Some(above),
+            Some(above),
+            Some(above),
+            Some(u32::MAX),
+            Some(lowest),
+            Some(lowest.saturating_sub(1)),
+            None,
+        ]);
         let clock = self.clock(state, &watch_deadlines(state));
         Call::ObserveBlocked { clock, next_apply_height, frontier_hash, busy, staged_count, staged_height }
     }
 
+    /// The height that a waiting cold front waits at.
+    fn waiting_height(&self, state: &State) -> Option<u32> {
+        let Some(ColdFront::Waiting { hash, .. }) = state.cold_front else {
+            return None;
+        };
+        state.pending.iter().find(|entry| entry.hash == hash).map(|entry| entry.height)
+    }
+
     fn fanout(&mut self, state: &State) -> Call {
         let least = state.settings.min_peers_for_fanout;
-        let count = self.random.pick(&[0, 1, 5, least, least, least + 1, least.saturating_sub(1), least.saturating_sub(2), u64::MAX]);
-        let deadlines: Vec<Clock> = state.prefix_probe.iter().map(|probe| probe.started_at.saturating_add(state.settings.stall_timeout_initial)).collect();
+        let shut_out = self.world.theme == Theme::Races && state.prefix_probe.is_none();
+        let count = if shut_out {
+            0
+        } else {
+            self.random.pick(&[0, 1, 5, least, least, least + 1, least.saturating_sub(1), least.saturating_sub(2), u64::MAX])
+        };
+        let deadlines: Vec<Clock> = state
+            .prefix_probe
+            .iter()
+            .map(|probe| probe.started_at.saturating_add(state.settings.stall_timeout_initial))
+            .collect();
         Call::SetFanoutEligiblePeers { clock: self.clock(state, &deadlines), count }
     }
 
     fn query(&mut self, state: &State) -> Call {
         let (source, hash) = (self.seat(state), self.hash(state));
-        let (byte_headroom, count_headroom) = self.headrooms(state.ewma_block_bytes);
+        let (byte_headroom, count_headroom) = self.headrooms(state);
+        if state.prefix_probe.is_some() && self.random.chance(40) {
+            return if self.random.chance(80) { Call::ProbeOffered { source, hash } } else { Call::ProbeStartedAt };
+        }
+        if state.cold_front.is_some() && self.random.chance(40) {
+            return Call::HedgeOffered { source, hash };
+        }
         match self.random.below(32) {
             0 => Call::FanoutActive,
             1 => Call::PendingLen,
@@ -439,10 +488,17 @@ impl Generator {
             6..=16 => leader,
             _ => random,
         };
-        let missing: Vec<Hash> = (0..probe.hashes.len()).filter(|index| progress >> index & 1 == 0).map(|index| probe.hashes[index]).collect();
+        let missing: Vec<Hash> =
+            (0..probe.hashes.len()).filter(|index| progress >> index & 1 == 0).map(|index| probe.hashes[index]).collect();
         let among = if self.random.chance(85) { &missing[..missing.len().min(4)] } else { &probe.hashes[..] };
         let hash = self.random.maybe(among).unwrap_or(probe.hashes[0]);
-        let source = if self.random.chance(4) { None } else if self.random.chance(5) { Some(self.world.seat(&mut self.random)) } else { Some(seat) };
+        let source = if self.random.chance(4) {
+            None
+        } else if self.random.chance(5) {
+            Some(self.world.seat(&mut self.random))
+        } else {
+            Some(seat)
+        };
         (hash, source)
     }
 
@@ -475,9 +531,11 @@ impl Generator {
 
     /// Prefix races need one owner; otherwise any seat asks.
     fn seat_for_request(&mut self, state: &State) -> Seat {
-        let lonely = self.world.theme == Theme::Races && state.prefix_probe.is_none() && self.random.chance(85);
-        match state.pending.first() {
-            Some(entry) if lonely => entry.owner,
+        let races = self.world.theme == Theme::Races;
+        match (&state.prefix_probe, state.pending.first()) {
+            (None, Some(entry)) if races && self.random.chance(85) => entry.owner,
+            (Some(probe), _) if self.random.chance(60) => self.random.pick(&probe.racers).0,
+            (Some(probe), _) => self.world.other_seat(&mut self.random, probe.owner),
             _ => self.seat(state),
         }
     }
@@ -490,22 +548,30 @@ impl Generator {
         }
     }
 
-    fn headrooms(&mut self, mean: u64) -> (u64, u64) {
-        let bytes = self.random.pick(&[u64::MAX, u64::MAX, MAX_BYTE_LIMIT, mean, mean + 1, mean - 1, 0]);
-        let count = self.random.pick(&[u64::MAX, u64::MAX, 16, 3, 1, 0]);
+    /// Mostly enough; else around the mean and around what the settings leave.
+    fn headrooms(&mut self, state: &State) -> (u64, u64) {
+        let mean = state.ewma_block_bytes;
+        let byte_room = state.settings.max_pending_bytes.saturating_sub(state.pending_bytes);
+        let room = state.settings.max_pending_blocks.saturating_sub(state.pending.len() as u64);
+        let bytes = self.random.pick(&[u64::MAX, u64::MAX, MAX_BYTE_LIMIT, mean, mean + 1, mean - 1, 0, byte_room]);
+        let count = self.random.pick(&[u64::MAX, u64::MAX, 16, 3, 1, 0, room]);
         (bytes, count)
     }
 
     /// Mostly a moment that some comparison turns on, or next to it; never before the last one.
     fn clock(&mut self, state: &State, own_deadlines: &[Clock]) -> Clock {
         let last = state.last_clock;
-        let ahead = |times: &[Clock]| -> Vec<Clock> { times.iter().copied().filter(|time| *time >= last && *time <= MAX_CLOCK).collect() };
+        let ahead = |times: &[Clock]| -> Vec<Clock> {
+            times.iter().copied().filter(|time| *time >= last && *time <= MAX_CLOCK).collect()
+        };
         let own = ahead(own_deadlines);
         let times = if own.is_empty() || self.random.chance(15) { ahead(&all_deadlines(state)) } else { own };
         let chosen = match self.random.below(100) {
             0..=29 => last,
             30..=69 => self.near_deadline(&times).unwrap_or(last),
-            70..=89 => last + self.random.pick(&[1, 2, 1_000_000, 49_999_999, 50_000_000, 300_000_000, 1_000_000_000, 2_000_000_000]),
+            70..=89 => {
+                last + self.random.pick(&[1, 2, 1_000_000, 49_999_999, 50_000_000, 300_000_000, 1_000_000_000, 2_000_000_000])
+            }
             90..=97 => last + self.random.below(20_000_000_000),
             98 => last.saturating_add(self.random.below(4 * MAX_DURATION)),
             _ if self.world.theme == Theme::LastMoments => MAX_CLOCK,
@@ -524,6 +590,16 @@ impl Generator {
             _ => time,
         })
     }
+}
+
+fn when(condition: bool, then: u64, otherwise: u64) -> u64 {
+    if condition { then } else { otherwise }
+}
+
+/// A front past the four that decide a race, so that a hedge may still race when the probe is won.
+fn late_probed_height(state: &State) -> Option<u32> {
+    let late = state.prefix_probe.as_ref()?.hashes.get(4..)?;
+    state.pending.iter().find(|entry| late.contains(&entry.hash)).map(|entry| entry.height)
 }
 
 fn owner_timeout(state: &State) -> u64 {

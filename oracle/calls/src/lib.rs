@@ -6,6 +6,7 @@ pub mod data;
 pub mod events;
 pub mod generator;
 pub mod random;
+pub mod select;
 pub mod tally;
 pub mod text;
 mod world;

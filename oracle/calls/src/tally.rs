@@ -40,6 +40,11 @@ impl Tally {
         *self.counts.entry((name, side)).or_insert(0) += 1;
     }
 
+    /// The names of the events that came.
+    pub fn happened(&self) -> BTreeSet<String> {
+        self.by_name().into_keys().collect()
+    }
+
     /// Every listed event with its count, in the list's order.
     pub fn table(&self) -> Vec<(String, u64)> {
         let counts = self.by_name();
@@ -51,8 +56,11 @@ impl Tally {
     pub fn problems(&self) -> Vec<String> {
         let unreachable: BTreeSet<String> = unreachable().into_iter().map(|(name, _)| name).collect();
         let names: BTreeSet<String> = listed().into_iter().collect();
-        let mut problems: Vec<String> = self.by_name().into_keys().filter(|name| !names.contains(name)).map(|name| format!("not listed: {name}")).collect();
-        problems.extend(unreachable.iter().filter(|name| !names.contains(*name)).map(|name| format!("documented but not listed: {name}")));
+        let mut problems: Vec<String> =
+            self.by_name().into_keys().filter(|name| !names.contains(name)).map(|name| format!("not listed: {name}")).collect();
+        problems.extend(
+            unreachable.iter().filter(|name| !names.contains(*name)).map(|name| format!("documented but not listed: {name}")),
+        );
         for (name, count) in self.table() {
             match (count, unreachable.contains(&name)) {
                 (0, false) => problems.push(format!("at 0: {name}")),

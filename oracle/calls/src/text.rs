@@ -42,7 +42,12 @@ impl Line {
     fn call(&mut self, call: &Call) {
         match call {
             Call::Open { clock, settings, keys } => {
-                self.tokens(&[("call", &"open"), ("a.clock", clock), ("a.settings", &settings_text(settings)), ("a.keys", &bytes(keys))]);
+                self.tokens(&[
+                    ("call", &"open"),
+                    ("a.clock", clock),
+                    ("a.settings", &settings_text(settings)),
+                    ("a.keys", &bytes(keys)),
+                ]);
             }
             Call::MarkRequested { clock, owner, entries, next_request_height, byte_headroom, count_headroom } => self.tokens(&[
                 ("call", &"mark_requested"),
@@ -63,17 +68,29 @@ impl Line {
                 ("a.byte_headroom", byte_headroom),
                 ("a.count_headroom", count_headroom),
             ]),
-            _ => self.smaller_call(call),
+            _ => self.delivery_call(call),
         }
     }
 
-    fn smaller_call(&mut self, call: &Call) {
+    fn delivery_call(&mut self, call: &Call) {
         match call {
             Call::MarkReceivedFrom { clock, hash, bytes, source } => {
-                self.tokens(&[("call", &"mark_received_from"), ("a.clock", clock), ("a.hash", hash), ("a.bytes", bytes), ("a.source", &maybe(*source))]);
+                self.tokens(&[
+                    ("call", &"mark_received_from"),
+                    ("a.clock", clock),
+                    ("a.hash", hash),
+                    ("a.bytes", bytes),
+                    ("a.source", &maybe(*source)),
+                ]);
             }
             Call::CreditDeliveryFrom { clock, hash, source, pending_height } => {
-                self.tokens(&[("call", &"credit_delivery_from"), ("a.clock", clock), ("a.hash", hash), ("a.source", source), ("a.pending_height", &maybe(*pending_height))]);
+                self.tokens(&[
+                    ("call", &"credit_delivery_from"),
+                    ("a.clock", clock),
+                    ("a.hash", hash),
+                    ("a.source", source),
+                    ("a.pending_height", &maybe(*pending_height)),
+                ]);
             }
             Call::CreditDuplicateDelivery { hash, source } => {
                 self.tokens(&[("call", &"credit_duplicate_delivery"), ("a.hash", hash), ("a.source", source)]);
@@ -81,13 +98,29 @@ impl Line {
             Call::RejectDelivery { clock, hash, source } => {
                 self.tokens(&[("call", &"reject_delivery"), ("a.clock", clock), ("a.hash", hash), ("a.source", &maybe(*source))]);
             }
+            _ => self.letting_go_call(call),
+        }
+    }
+
+    fn letting_go_call(&mut self, call: &Call) {
+        match call {
             Call::ExpirePending { clock } => self.tokens(&[("call", &"expire_pending"), ("a.clock", clock)]),
             Call::RequeueForRetry { clock, hash, height } => {
-                self.tokens(&[("call", &"requeue_for_retry"), ("a.clock", clock), ("a.hash", hash), ("a.height", &maybe(*height))]);
+                self.tokens(&[
+                    ("call", &"requeue_for_retry"),
+                    ("a.clock", clock),
+                    ("a.hash", hash),
+                    ("a.height", &maybe(*height)),
+                ]);
             }
-            Call::ReleasePending { clock, hash } => self.tokens(&[("call", &"release_pending"), ("a.clock", clock), ("a.hash", hash)]),
-            Call::RetireBefore { clock, height } => self.tokens(&[("call", &"retire_before"), ("a.clock", clock), ("a.height", height)]),
-            Call::RetainOwnedBy { owns } => self.tokens(&[("call", &"retain_owned_by"), ("a.owns", &owns.iter().map(|owned| flag(*owned)).collect::<String>())]),
+            Call::ReleasePending { clock, hash } => {
+                self.tokens(&[("call", &"release_pending"), ("a.clock", clock), ("a.hash", hash)])
+            }
+            Call::RetireBefore { clock, height } => {
+                self.tokens(&[("call", &"retire_before"), ("a.clock", clock), ("a.height", height)])
+            }
+            Call::RetainOwnedBy { owns } => self
+                .tokens(&[("call", &"retain_owned_by"), ("a.owns", &owns.iter().map(|owned| flag(*owned)).collect::<String>())]),
             Call::MarkPeerUnresponsive { clock, source } => {
                 self.tokens(&[("call", &"mark_peer_unresponsive"), ("a.clock", clock), ("a.source", source)]);
             }
@@ -105,17 +138,24 @@ impl Line {
                 ("a.alternates", &list(alternates, Seat::to_string)),
             ]),
             Call::ConfirmColdFrontHedge { owner, alternate, hash } => {
-                self.tokens(&[("call", &"confirm_cold_front_hedge"), ("a.owner", owner), ("a.alternate", alternate), ("a.hash", hash)]);
+                self.tokens(&[
+                    ("call", &"confirm_cold_front_hedge"),
+                    ("a.owner", owner),
+                    ("a.alternate", alternate),
+                    ("a.hash", hash),
+                ]);
             }
-            Call::ObserveBlocked { clock, next_apply_height, frontier_hash, busy, staged_count, staged_height } => self.tokens(&[
-                ("call", &"observe_blocked"),
-                ("a.clock", clock),
-                ("a.next_apply_height", &maybe(*next_apply_height)),
-                ("a.frontier_hash", &maybe(*frontier_hash)),
-                ("a.busy", &flag(*busy)),
-                ("a.staged_count", staged_count),
-                ("a.staged_height", &maybe(*staged_height)),
-            ]),
+            Call::ObserveBlocked { clock, next_apply_height, frontier_hash, busy, staged_count, staged_height } => {
+                self.tokens(&[
+                    ("call", &"observe_blocked"),
+                    ("a.clock", clock),
+                    ("a.next_apply_height", &maybe(*next_apply_height)),
+                    ("a.frontier_hash", &maybe(*frontier_hash)),
+                    ("a.busy", &flag(*busy)),
+                    ("a.staged_count", staged_count),
+                    ("a.staged_height", &maybe(*staged_height)),
+                ])
+            }
             Call::SetFanoutEligiblePeers { clock, count } => {
                 self.tokens(&[("call", &"set_fanout_eligible_peers"), ("a.clock", clock), ("a.count", count)]);
             }
@@ -127,7 +167,11 @@ impl Line {
     fn query(&mut self, call: &Call) {
         match call {
             Call::HasRequestCapacity { byte_headroom, count_headroom } => {
-                self.tokens(&[("call", &"has_request_capacity"), ("a.byte_headroom", byte_headroom), ("a.count_headroom", count_headroom)]);
+                self.tokens(&[
+                    ("call", &"has_request_capacity"),
+                    ("a.byte_headroom", byte_headroom),
+                    ("a.count_headroom", count_headroom),
+                ]);
             }
             Call::ComputeRequestCapacity { source, byte_headroom, count_headroom } => self.tokens(&[
                 ("call", &"compute_request_capacity"),
@@ -136,10 +180,18 @@ impl Line {
                 ("a.count_headroom", count_headroom),
             ]),
             Call::ExpiredPendingCapacity { clock } => self.tokens(&[("call", &"expired_pending_capacity"), ("a.clock", clock)]),
-            Call::PeerHasExpiredPending { source, clock } => self.tokens(&[("call", &"peer_has_expired_pending"), ("a.source", source), ("a.clock", clock)]),
-            Call::PeerInStallerCooldown { source, clock } => self.tokens(&[("call", &"peer_in_staller_cooldown"), ("a.source", source), ("a.clock", clock)]),
-            Call::ProbeOffered { source, hash } => self.tokens(&[("call", &"probe_offered"), ("a.source", source), ("a.hash", hash)]),
-            Call::HedgeOffered { source, hash } => self.tokens(&[("call", &"hedge_offered"), ("a.source", source), ("a.hash", hash)]),
+            Call::PeerHasExpiredPending { source, clock } => {
+                self.tokens(&[("call", &"peer_has_expired_pending"), ("a.source", source), ("a.clock", clock)])
+            }
+            Call::PeerInStallerCooldown { source, clock } => {
+                self.tokens(&[("call", &"peer_in_staller_cooldown"), ("a.source", source), ("a.clock", clock)])
+            }
+            Call::ProbeOffered { source, hash } => {
+                self.tokens(&[("call", &"probe_offered"), ("a.source", source), ("a.hash", hash)])
+            }
+            Call::HedgeOffered { source, hash } => {
+                self.tokens(&[("call", &"hedge_offered"), ("a.source", source), ("a.hash", hash)])
+            }
             Call::ContainsPending { hash } => self.tokens(&[("call", &"contains_pending"), ("a.hash", hash)]),
             Call::PendingOwner { hash } => self.tokens(&[("call", &"pending_owner"), ("a.hash", hash)]),
             Call::IsDownloading { owner } => self.tokens(&[("call", &"is_downloading"), ("a.owner", owner)]),
@@ -166,7 +218,10 @@ impl Line {
             ("s.fanout_eligible_peers", &state.fanout_eligible_peers),
             ("s.fanout_engaged", &flag(state.fanout_engaged)),
             ("s.stall", &maybe(state.stall.map(|stall| format!("{}:{}:{}", stall.owner, stall.front_hash, stall.since)))),
-            ("s.apply_side_stuck", &maybe(state.apply_side_stuck.map(|stuck| format!("{}:{}:{}", stuck.height, stuck.frontier_hash, stuck.since)))),
+            (
+                "s.apply_side_stuck",
+                &maybe(state.apply_side_stuck.map(|stuck| format!("{}:{}:{}", stuck.height, stuck.frontier_hash, stuck.since))),
+            ),
             ("s.front_interval_ewma_ms", &maybe(state.front_interval_ewma_ms)),
             ("s.last_front_advance", &maybe(state.last_front_advance)),
             ("s.stall_timeout", &state.stall_timeout),
@@ -177,7 +232,11 @@ impl Line {
             ("s.prefix_probe_attempted_owner", &maybe(state.prefix_probe_attempted_owner)),
             (
                 "s.pending_timeout_observation",
-                &maybe(state.pending_timeout_observation.map(|seen| format!("{}:{}:{}", seen.owner, seen.hash, flag(seen.expired_release)))),
+                &maybe(
+                    state
+                        .pending_timeout_observation
+                        .map(|seen| format!("{}:{}:{}", seen.owner, seen.hash, flag(seen.expired_release))),
+                ),
             ),
         ]);
     }
@@ -222,8 +281,12 @@ fn answer(answer: &Answer) -> String {
         Answer::Rejected(Rejection::ReleasedPending) => "rejected:released_pending".to_string(),
         Answer::Rejected(Rejection::DiscardedUnsolicited) => "rejected:discarded_unsolicited".to_string(),
         Answer::Decided(Decision::Blame { owner, reason: BlameReason::Staller }) => format!("blame:{owner}:staller"),
-        Answer::Decided(Decision::Blame { owner, reason: BlameReason::PendingTimeout }) => format!("blame:{owner}:pending_timeout"),
-        Answer::Decided(Decision::EvictStaged { height, hash, suppressed_for }) => format!("evict:{height}:{hash}:{suppressed_for}"),
+        Answer::Decided(Decision::Blame { owner, reason: BlameReason::PendingTimeout }) => {
+            format!("blame:{owner}:pending_timeout")
+        }
+        Answer::Decided(Decision::EvictStaged { height, hash, suppressed_for }) => {
+            format!("evict:{height}:{hash}:{suppressed_for}")
+        }
         Answer::Decided(Decision::HedgeColdFront { owner, front_hash }) => format!("hedge:{owner}:{front_hash}"),
         Answer::Decided(Decision::None) => "none".to_string(),
         Answer::Planned(None) => "plan:-".to_string(),

@@ -96,7 +96,10 @@ impl World {
             Theme::TopHeights => u32::MAX - random.below(pool) as u32,
             _ => random.pick(&[0, 1, 1, 700, 800_000, 1 << 31]),
         };
-        let seat_count = if theme == Theme::FullTable { SEATS as u64 } else { 1 + random.below(6) };
+        let seat_count = match theme {
+            Theme::FullTable => SEATS as u64,
+            _ => random.pick(&[1, 2, 2, 3, 3, 4, 5, 6]),
+        };
         let mut seats: Vec<Seat> = (0..seat_count).map(|_| random.next() as u8).collect();
         if random.chance(20) {
             seats.extend([0, 255]);
@@ -117,6 +120,12 @@ impl World {
 
     pub fn seat(&self, random: &mut Random) -> Seat {
         if random.chance(3) { random.next() as u8 } else { random.pick(&self.seats) }
+    }
+
+    /// Another seat than this one, if the world has one.
+    pub fn other_seat(&self, random: &mut Random, seat: Seat) -> Seat {
+        let others: Vec<Seat> = self.seats.iter().copied().filter(|other| *other != seat).collect();
+        random.maybe(&others).unwrap_or(seat)
     }
 
     /// How many entries a request lists.

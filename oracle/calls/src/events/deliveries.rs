@@ -41,9 +41,18 @@ fn mark_received_from(tally: &mut Tally, seen: &Seen, hash: Hash, bytes: u64, so
     if source.is_none() {
         let racing = matches!(before.cold_front, Some(ColdFront::Racing { hash: front, .. }) if front == hash);
         tally.hit_if("mark_received_from: racing front from nobody, race stays", racing);
-        tally.hit_if("mark_received_from: probed block from nobody, probe stays", before.prefix_probe.as_ref().is_some_and(|probe| probe.hashes.contains(&hash)));
-        tally.hit_if("mark_received_from: stalling front from nobody, episode stays", before.stall.is_some_and(|stall| stall.front_hash == hash));
-        tally.hit_if("mark_received_from: observed block from nobody, observation stays", before.pending_timeout_observation.is_some_and(|seen| seen.hash == hash));
+        tally.hit_if(
+            "mark_received_from: probed block from nobody, probe stays",
+            before.prefix_probe.as_ref().is_some_and(|probe| probe.hashes.contains(&hash)),
+        );
+        tally.hit_if(
+            "mark_received_from: stalling front from nobody, episode stays",
+            before.stall.is_some_and(|stall| stall.front_hash == hash),
+        );
+        tally.hit_if(
+            "mark_received_from: observed block from nobody, observation stays",
+            before.pending_timeout_observation.is_some_and(|seen| seen.hash == hash),
+        );
     }
     tally.hit_if("mark_received_from: with 256 pending", before.pending.len() == MAX_PENDING);
     tally.hit_if("mark_received_from: body 0", bytes == 0);
@@ -58,8 +67,14 @@ fn late_credit(tally: &mut Tally, before: &State, hash: Hash) {
     }
     let racing = matches!(before.cold_front, Some(ColdFront::Racing { hash: front, .. }) if front == hash);
     tally.hit_if("credit_delivery_from: late, on the racing front", racing);
-    tally.hit_if("credit_delivery_from: late, on a probed block", before.prefix_probe.as_ref().is_some_and(|probe| probe.hashes.contains(&hash)));
-    tally.hit_if("credit_delivery_from: late, on the observed block", before.pending_timeout_observation.is_some_and(|seen| seen.hash == hash));
+    tally.hit_if(
+        "credit_delivery_from: late, on a probed block",
+        before.prefix_probe.as_ref().is_some_and(|probe| probe.hashes.contains(&hash)),
+    );
+    tally.hit_if(
+        "credit_delivery_from: late, on the observed block",
+        before.pending_timeout_observation.is_some_and(|seen| seen.hash == hash),
+    );
 }
 
 fn credit_delivery_from(tally: &mut Tally, seen: &Seen, clock: Clock, hash: Hash, source: Seat, height: Option<u32>) {
@@ -147,6 +162,8 @@ fn rejected_front(tally: &mut Tally, before: &State, hash: Hash, source: Option<
         Some(ColdFront::Racing { hash: front, .. }) if front != hash => tally.hit("reject_delivery: racing on another hash"),
         Some(ColdFront::Racing { .. }) if source.is_none() => tally.hit("reject_delivery: racing, from nobody"),
         Some(ColdFront::Racing { owner, .. }) if source == Some(owner) => tally.hit("reject_delivery: racing, from the owner"),
-        Some(ColdFront::Racing { alternate, .. }) => tally.either("reject_delivery: racing, from the alternate", source == Some(alternate)),
+        Some(ColdFront::Racing { alternate, .. }) => {
+            tally.either("reject_delivery: racing, from the alternate", source == Some(alternate))
+        }
     }
 }

@@ -69,7 +69,10 @@ impl Starts {
             },
             Some(oldest) => {
                 tally.hit("reset_owner_queue_start: removed newer");
-                tally.hit_if("reset_owner_queue_start: removed newer, start above oldest", start.is_some_and(|start| start > oldest));
+                tally.hit_if(
+                    "reset_owner_queue_start: removed newer, start above oldest",
+                    start.is_some_and(|start| start > oldest),
+                );
             }
         }
     }
@@ -104,7 +107,10 @@ fn retire_before(tally: &mut Tally, seen: &Seen, clock: Clock, height: u32) {
         tally.compare("retire_before: entry's height against it", entry.height, height);
     }
     tally.hit_if("retire_before: several retired", seen.gone.len() > 1);
-    tally.hit_if("retire_before: frontier above, stays", seen.gone.iter().any(|gone| gone.entry.height < before.next_request_height));
+    tally.hit_if(
+        "retire_before: frontier above, stays",
+        seen.gone.iter().any(|gone| gone.entry.height < before.next_request_height),
+    );
     let mut left: Vec<&Entry> = before.pending.iter().collect();
     let mut starts = Starts::of(before);
     for gone in seen.gone {
@@ -162,7 +168,10 @@ fn swept_observation(tally: &mut Tally, seen: &Seen) {
         None => tally.hit("expire_pending: observed entry not swept"),
         Some(gone) => {
             tally.either("expire_pending: observed entry swept, of the observed owner", gone.entry.owner == observed.owner);
-            tally.hit_if("expire_pending: observation marked", seen.after.pending_timeout_observation.is_some_and(|after| after.expired_release) && !observed.expired_release);
+            tally.hit_if(
+                "expire_pending: observation marked",
+                seen.after.pending_timeout_observation.is_some_and(|after| after.expired_release) && !observed.expired_release,
+            );
         }
     }
     tally.hit_if("expire_pending: observation marked before", observed.expired_release);

@@ -72,7 +72,10 @@ fn everywhere(tally: &mut Tally, seen: &Seen) {
     tally.hit_if("window: height 4294967295 pending", top >= 1);
     tally.hit_if("window: height 4294967295 pending twice", top >= 2);
     tally.hit_if("window: 256 pending", heights.len() == MAX_PENDING);
-    tally.hit_if("window: lowest height twice", heights.iter().min().is_some_and(|lowest| heights.iter().filter(|height| *height == lowest).count() > 1));
+    tally.hit_if(
+        "window: lowest height twice",
+        heights.iter().min().is_some_and(|lowest| heights.iter().filter(|height| *height == lowest).count() > 1),
+    );
     tally.hit_if("window: mean 80", seen.after.ewma_block_bytes == 80);
     tally.hit_if("window: mean at its top", seen.after.ewma_block_bytes == MAX_BODY - 7);
     for release in seen.gone {
@@ -123,7 +126,8 @@ impl State {
     }
 
     pub(crate) fn passed_over(&self, entry: &Entry, clock: Clock) -> bool {
-        clock - entry.requested_at >= self.stall_timeout && self.last_body(entry.owner).is_some_and(|last| last > entry.requested_at)
+        clock - entry.requested_at >= self.stall_timeout
+            && self.last_body(entry.owner).is_some_and(|last| last > entry.requested_at)
     }
 
     /// `stall_decay_floor`.

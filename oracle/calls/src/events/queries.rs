@@ -16,7 +16,11 @@ pub(crate) fn count(tally: &mut Tally, seen: &Seen) {
             let key = state.keys[usize::from(*source)];
             match state.recent_stallers.iter().find(|(noted, _)| *noted == key) {
                 None => tally.hit("peer_in_staller_cooldown: key not noted"),
-                Some((_, fired_at)) => tally.compare("peer_in_staller_cooldown: age against cooldown", clock - fired_at, state.settings.staller_cooldown),
+                Some((_, fired_at)) => tally.compare(
+                    "peer_in_staller_cooldown: age against cooldown",
+                    clock - fired_at,
+                    state.settings.staller_cooldown,
+                ),
             }
         }
         Call::StallingPeer => tally.either("stalling_peer: some", *seen.answer != Answer::MaybePair(None)),
@@ -92,7 +96,9 @@ fn probe_offered(tally: &mut Tally, seen: &Seen, source: Seat, hash: Hash) {
 fn hedge_offered(tally: &mut Tally, seen: &Seen, source: Seat, hash: Hash) {
     match seen.before.cold_front {
         Some(ColdFront::Racing { hash: front, .. }) if front != hash => tally.hit("hedge_offered: another hash"),
-        Some(ColdFront::Racing { alternate, .. }) => tally.either("hedge_offered: this hash, to the alternate", alternate == source),
+        Some(ColdFront::Racing { alternate, .. }) => {
+            tally.either("hedge_offered: this hash, to the alternate", alternate == source)
+        }
         Some(ColdFront::Waiting { .. }) => tally.hit("hedge_offered: waiting"),
         None => tally.hit("hedge_offered: no cold front"),
     }

@@ -9,7 +9,8 @@ const WIN_BLOCKS: u64 = 4;
 
 pub(crate) fn count(tally: &mut Tally, seen: &Seen) {
     match seen.call {
-        Call::MarkReceivedFrom { clock, hash, source: Some(source), .. } | Call::CreditDeliveryFrom { clock, hash, source, .. } => {
+        Call::MarkReceivedFrom { clock, hash, source: Some(source), .. }
+        | Call::CreditDeliveryFrom { clock, hash, source, .. } => {
             resolve_cold_front_delivery(tally, seen, *clock, *hash, *source);
             if !hedge_won(seen.before, *hash, *source) {
                 record_prefix_probe_delivery(tally, seen, *clock, *hash, *source);
@@ -32,16 +33,24 @@ fn resolve_cold_front_delivery(tally: &mut Tally, seen: &Seen, clock: Clock, has
     let before = seen.before;
     match before.cold_front {
         None => tally.hit("resolve_cold_front_delivery: no cold front"),
-        Some(ColdFront::Waiting { hash: front, .. }) => tally.either("resolve_cold_front_delivery: waiting on this hash", front == hash),
-        Some(ColdFront::Racing { hash: front, .. }) if front != hash => tally.hit("resolve_cold_front_delivery: racing on another hash"),
+        Some(ColdFront::Waiting { hash: front, .. }) => {
+            tally.either("resolve_cold_front_delivery: waiting on this hash", front == hash)
+        }
+        Some(ColdFront::Racing { hash: front, .. }) if front != hash => {
+            tally.hit("resolve_cold_front_delivery: racing on another hash")
+        }
         Some(ColdFront::Racing { owner, alternate, .. }) if source != alternate => {
             tally.either("resolve_cold_front_delivery: hedge won by the owner, not by a third", source == owner);
         }
         Some(ColdFront::Racing { owner, alternate, .. }) => {
             tally.either("resolve_cold_front_delivery: alternate won, it is the owner", owner == alternate);
             tally.either("resolve_cold_front_delivery: alternate won over a probe", before.prefix_probe.is_some());
-            tally.either("resolve_cold_front_delivery: alternate won, owner loses entries", seen.gone.iter().any(|gone| gone.reason == Reason::HedgeLost));
-            let observed = before.pending_timeout_observation.is_some_and(|observed| observed.owner == owner && observed.hash != hash);
+            tally.either(
+                "resolve_cold_front_delivery: alternate won, owner loses entries",
+                seen.gone.iter().any(|gone| gone.reason == Reason::HedgeLost),
+            );
+            let observed =
+                before.pending_timeout_observation.is_some_and(|observed| observed.owner == owner && observed.hash != hash);
             tally.hit_if("resolve_cold_front_delivery: alternate won, owner's observation goes", observed);
             lost_heights(tally, seen, "resolve_cold_front_delivery: lowest lost against frontier");
             mark_peer_unresponsive(tally, before, owner, clock);
@@ -72,7 +81,10 @@ fn record_prefix_probe_delivery(tally: &mut Tally, seen: &Seen, clock: Clock, ha
     let racer = probe.racers.iter().find(|(seat, _)| *seat == source);
     tally.either("record_prefix_probe_delivery: from a racer", racer.is_some());
     let progress = racer.map_or(0, |(_, progress)| progress | bit);
-    tally.hit_if("record_prefix_probe_delivery: four blocks, not the first four", progress.count_ones() >= 4 && progress & WIN_MASK != WIN_MASK);
+    tally.hit_if(
+        "record_prefix_probe_delivery: four blocks, not the first four",
+        progress.count_ones() >= 4 && progress & WIN_MASK != WIN_MASK,
+    );
     let accepted = probe.accepted | bit;
     if progress & WIN_MASK != WIN_MASK {
         tally.either("record_prefix_probe_delivery: nobody won, all four are in", accepted & WIN_MASK == WIN_MASK);
@@ -89,13 +101,22 @@ fn won(tally: &mut Tally, seen: &Seen, probe: &PrefixProbe, winner: Seat) {
     tally.either("record_prefix_probe_delivery: won by the owner, not an alternate", winner == probe.owner);
     let lost: Vec<&Release> = seen.gone.iter().filter(|gone| gone.reason == Reason::PrefixRaceLost).collect();
     tally.either("record_prefix_probe_delivery: win lets entries go", !lost.is_empty());
-    tally.hit_if("record_prefix_probe_delivery: win lets an alternate's entries go", lost.iter().any(|gone| gone.entry.owner != probe.owner));
+    tally.hit_if(
+        "record_prefix_probe_delivery: win lets an alternate's entries go",
+        lost.iter().any(|gone| gone.entry.owner != probe.owner),
+    );
     tally.hit_if("record_prefix_probe_delivery: winner's entries stay", seen.after.owns_entries(winner));
     let stranger = |entry: &&Entry| !probe.racers.iter().any(|(seat, _)| *seat == entry.owner);
     tally.hit_if("record_prefix_probe_delivery: strangers' entries stay", seen.after.pending.iter().find(stranger).is_some());
     tally.hit_if("record_prefix_probe_delivery: win clears an observation", before.pending_timeout_observation.is_some());
-    tally.hit_if("record_prefix_probe_delivery: win clears a waiting front", matches!(before.cold_front, Some(ColdFront::Waiting { .. })));
-    tally.hit_if("record_prefix_probe_delivery: win clears a racing front", matches!(before.cold_front, Some(ColdFront::Racing { .. })));
+    tally.hit_if(
+        "record_prefix_probe_delivery: win clears a waiting front",
+        matches!(before.cold_front, Some(ColdFront::Waiting { .. })),
+    );
+    tally.hit_if(
+        "record_prefix_probe_delivery: win clears a racing front",
+        matches!(before.cold_front, Some(ColdFront::Racing { .. })),
+    );
     lost_heights(tally, seen, "record_prefix_probe_delivery: lowest lost against frontier");
 }
 
@@ -142,7 +163,8 @@ fn walk(tally: &mut Tally, state: &State, limit: u64) {
         }
         if *height != expected {
             let again = place > 0 && ordered[place - 1] == *height;
-            ended = if again { "prefix_probe_plan: walk ended by the same height" } else { "prefix_probe_plan: walk ended by a gap" };
+            ended =
+                if again { "prefix_probe_plan: walk ended by the same height" } else { "prefix_probe_plan: walk ended by a gap" };
             break;
         }
         taken += 1;
@@ -151,7 +173,10 @@ fn walk(tally: &mut Tally, state: &State, limit: u64) {
     }
     tally.hit(ended);
     tally.compare("prefix_probe_plan: walked against 4", taken, WIN_BLOCKS);
-    tally.hit_if("prefix_probe_plan: end height one less than the last", taken >= WIN_BLOCKS && ordered[taken as usize - 1] == u32::MAX);
+    tally.hit_if(
+        "prefix_probe_plan: end height one less than the last",
+        taken >= WIN_BLOCKS && ordered[taken as usize - 1] == u32::MAX,
+    );
 }
 
 fn confirm_prefix_probe(tally: &mut Tally, seen: &Seen) {
@@ -191,11 +216,14 @@ fn confirm_cold_front_hedge(tally: &mut Tally, seen: &Seen) {
         None => tally.hit("confirm_cold_front_hedge: no cold front"),
         Some(ColdFront::Racing { .. }) => tally.hit("confirm_cold_front_hedge: racing already"),
         Some(ColdFront::Waiting { hash: front, .. }) if front != *hash => tally.hit("confirm_cold_front_hedge: another hash"),
-        Some(ColdFront::Waiting { owner: waiting, .. }) if waiting != *owner => tally.hit("confirm_cold_front_hedge: another owner"),
+        Some(ColdFront::Waiting { owner: waiting, .. }) if waiting != *owner => {
+            tally.hit("confirm_cold_front_hedge: another owner")
+        }
         Some(ColdFront::Waiting { .. }) => {
             let known = before.cold_hedged_fronts.contains(hash);
             tally.either("confirm_cold_front_hedge: hedged before", known);
-            tally.either("confirm_cold_front_hedge: new hash, two hedged already", !known && before.cold_hedged_fronts.len() >= 2);
+            tally
+                .either("confirm_cold_front_hedge: new hash, two hedged already", !known && before.cold_hedged_fronts.len() >= 2);
             tally.hit_if("confirm_cold_front_hedge: second front", !known && before.cold_hedged_fronts.len() == 1);
             tally.either("confirm_cold_front_hedge: alternate is the owner", alternate == owner);
         }
@@ -212,7 +240,11 @@ fn set_fanout_eligible_peers(tally: &mut Tally, seen: &Seen, clock: Clock, count
             false
         }
         Some(probe) => {
-            tally.compare("set_fanout_eligible_peers: probe's age against stall initial", clock - probe.started_at, settings.stall_timeout_initial);
+            tally.compare(
+                "set_fanout_eligible_peers: probe's age against stall initial",
+                clock - probe.started_at,
+                settings.stall_timeout_initial,
+            );
             clock - probe.started_at < settings.stall_timeout_initial
         }
     };

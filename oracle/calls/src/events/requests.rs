@@ -23,29 +23,50 @@ fn mark_requested(tally: &mut Tally, seen: &Seen) {
     };
     let (before, after) = (seen.before, seen.after);
     tally.either("mark_requested: lists entries", !entries.is_empty());
-    if before.pending.is_empty() {
-        tally.either("mark_requested: into an empty window, lists entries", !entries.is_empty());
-        tally.hit_if("mark_requested: attempted owner cleared", before.prefix_probe_attempted_owner.is_some() && !entries.is_empty());
-        tally.hit_if("mark_requested: attempted owner kept by an empty request", before.prefix_probe_attempted_owner.is_some() && entries.is_empty());
-    } else {
-        tally.hit_if("mark_requested: attempted owner kept in a window with entries", before.prefix_probe_attempted_owner.is_some());
-    }
+    attempted_owner(tally, before, !entries.is_empty());
     raised_high_waters(tally, before, after);
     if !entries.is_empty() {
         tally.either("mark_requested: owner has a start", before.start(*owner).is_some());
     }
     tally.compare("mark_requested: next height against frontier", *next_request_height, before.next_request_height);
-    tally.hit_if("mark_requested: empty and raises the frontier", entries.is_empty() && after.next_request_height > before.next_request_height);
-    tally.hit_if("mark_requested: by a cooling peer", before.recent_stallers.iter().any(|(key, _)| *key == before.keys[usize::from(*owner)]));
-    tally.hit_if("mark_requested: past the pending blocks setting", after.pending.len() as u64 > after.settings.max_pending_blocks && !entries.is_empty());
-    tally.hit_if("mark_requested: estimate differs from one pending", before.pending.iter().any(|entry| entry.estimated_bytes != before.ewma_block_bytes) && !entries.is_empty());
+    tally.hit_if(
+        "mark_requested: empty and raises the frontier",
+        entries.is_empty() && after.next_request_height > before.next_request_height,
+    );
+    tally.hit_if(
+        "mark_requested: by a cooling peer",
+        before.recent_stallers.iter().any(|(key, _)| *key == before.keys[usize::from(*owner)]),
+    );
+    tally.hit_if(
+        "mark_requested: past the pending blocks setting",
+        after.pending.len() as u64 > after.settings.max_pending_blocks && !entries.is_empty(),
+    );
+    tally.hit_if(
+        "mark_requested: estimate differs from one pending",
+        before.pending.iter().any(|entry| entry.estimated_bytes != before.ewma_block_bytes) && !entries.is_empty(),
+    );
     has_request_capacity(tally, after, *byte_headroom, *count_headroom);
     tally.either("mark_requested: answers capacity", *seen.answer == Answer::Flag(true));
 }
 
+fn attempted_owner(tally: &mut Tally, before: &State, lists_entries: bool) {
+    let attempted = before.prefix_probe_attempted_owner.is_some();
+    if !before.pending.is_empty() {
+        tally.hit_if("mark_requested: attempted owner kept in a window with entries", attempted);
+        return;
+    }
+    tally.either("mark_requested: into an empty window, lists entries", lists_entries);
+    tally.hit_if("mark_requested: attempted owner cleared", attempted && lists_entries);
+    tally.hit_if("mark_requested: attempted owner kept by an empty request", attempted && !lists_entries);
+}
+
 fn raised_high_waters(tally: &mut Tally, before: &State, after: &State) {
-    tally.either("mark_requested: raises the blocks' high water", after.pending_blocks_high_water > before.pending_blocks_high_water);
-    tally.either("mark_requested: raises the bytes' high water", after.pending_bytes_high_water > before.pending_bytes_high_water);
+    tally.either(
+        "mark_requested: raises the blocks' high water",
+        after.pending_blocks_high_water > before.pending_blocks_high_water,
+    );
+    tally
+        .either("mark_requested: raises the bytes' high water", after.pending_bytes_high_water > before.pending_bytes_high_water);
 }
 
 fn has_request_capacity(tally: &mut Tally, state: &State, byte_headroom: u64, count_headroom: u64) {
@@ -93,7 +114,10 @@ fn mark_owned_fetch(tally: &mut Tally, seen: &Seen) {
     }
     tally.hit_if("mark_owned_fetch: asked", asked);
     let attempted = before.prefix_probe_attempted_owner.is_some();
-    tally.hit_if("mark_owned_fetch: asked into an empty window, attempted owner kept", asked && attempted && before.pending.is_empty());
+    tally.hit_if(
+        "mark_owned_fetch: asked into an empty window, attempted owner kept",
+        asked && attempted && before.pending.is_empty(),
+    );
     if asked {
         tally.either("mark_owned_fetch: asked, owner has a start", before.start(*owner).is_some());
     }
@@ -107,7 +131,10 @@ fn effective_peer_inflight(tally: &mut Tally, state: &State) -> u64 {
     }
     tally.hit_if("effective_peer_inflight: no eligible peer", state.fanout_eligible_peers == 0);
     let share = settings.max_pending_blocks.div_ceil(state.fanout_eligible_peers.max(1));
-    tally.hit_if("effective_peer_inflight: share rounded up", settings.max_pending_blocks % state.fanout_eligible_peers.max(1) != 0);
+    tally.hit_if(
+        "effective_peer_inflight: share rounded up",
+        settings.max_pending_blocks % state.fanout_eligible_peers.max(1) != 0,
+    );
     tally.compare("effective_peer_inflight: share against the setting", share, settings.fanout_peer_inflight);
     let share = share.max(settings.fanout_peer_inflight);
     tally.compare("effective_peer_inflight: against the peer limit", share, settings.max_peer_inflight);

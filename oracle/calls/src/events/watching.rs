@@ -17,7 +17,14 @@ struct Look {
 pub(crate) fn count(tally: &mut Tally, seen: &Seen) {
     match seen.call {
         Call::ObserveBlocked { clock, next_apply_height, frontier_hash, busy, staged_count, staged_height } => {
-            let look = Look { clock: *clock, next: *next_apply_height, frontier: *frontier_hash, busy: *busy, staged_count: *staged_count, staged_height: *staged_height };
+            let look = Look {
+                clock: *clock,
+                next: *next_apply_height,
+                frontier: *frontier_hash,
+                busy: *busy,
+                staged_count: *staged_count,
+                staged_height: *staged_height,
+            };
             observe_blocked(tally, seen, &look);
         }
         Call::MarkPeerUnresponsive { clock, source } => {
@@ -34,7 +41,9 @@ fn observe_blocked(tally: &mut Tally, seen: &Seen, look: &Look) {
     tally.either("observe_blocked: busy", look.busy);
     tally.hit(match seen.answer {
         Answer::Decided(Decision::Blame { reason: BlameReason::Staller, .. }) => "observe_blocked: blames a staller",
-        Answer::Decided(Decision::Blame { reason: BlameReason::PendingTimeout, .. }) => "observe_blocked: blames by pending timeout",
+        Answer::Decided(Decision::Blame { reason: BlameReason::PendingTimeout, .. }) => {
+            "observe_blocked: blames by pending timeout"
+        }
         Answer::Decided(Decision::EvictStaged { .. }) => "observe_blocked: evicts",
         Answer::Decided(Decision::HedgeColdFront { .. }) => "observe_blocked: hedges",
         _ => "observe_blocked: nothing to do",
@@ -80,8 +89,10 @@ fn advance_apply_side_stuck(tally: &mut Tally, before: &State, look: &Look, next
     };
     let same = before.apply_side_stuck.filter(|stuck| stuck.height == next && stuck.frontier_hash == frontier);
     if let Some(stuck) = before.apply_side_stuck {
-        tally.hit_if("advance_apply_side_stuck: same height, other hash", stuck.height == next && stuck.frontier_hash != frontier);
-        tally.hit_if("advance_apply_side_stuck: same hash, other height", stuck.height != next && stuck.frontier_hash == frontier);
+        tally
+            .hit_if("advance_apply_side_stuck: same height, other hash", stuck.height == next && stuck.frontier_hash != frontier);
+        tally
+            .hit_if("advance_apply_side_stuck: same hash, other height", stuck.height != next && stuck.frontier_hash == frontier);
     }
     match (same, look.busy) {
         (Some(_), true) => tally.hit("advance_apply_side_stuck: still stuck, busy"),
@@ -91,7 +102,11 @@ fn advance_apply_side_stuck(tally: &mut Tally, before: &State, look: &Look, next
     }
     if look.busy {
         let since = same.map_or(look.clock, |stuck| stuck.since);
-        tally.compare("advance_apply_side_stuck: time against twice received timeout", look.clock - since, 2 * before.settings.received_timeout);
+        tally.compare(
+            "advance_apply_side_stuck: time against twice received timeout",
+            look.clock - since,
+            2 * before.settings.received_timeout,
+        );
     }
 }
 
@@ -114,10 +129,17 @@ fn advance_cold_front(tally: &mut Tally, before: &State, clock: Clock, next: u32
         tally.either("advance_cold_front: no entry at the height, was waiting", waited);
         return false;
     };
-    tally.hit_if("advance_cold_front: two entries at the height", before.pending.iter().filter(|entry| entry.height == next).count() > 1);
+    tally.hit_if(
+        "advance_cold_front: two entries at the height",
+        before.pending.iter().filter(|entry| entry.height == next).count() > 1,
+    );
     match before.cold_front {
         Some(ColdFront::Waiting { owner, hash, since }) if owner == front.owner && hash == front.hash => {
-            tally.compare("advance_cold_front: waited against stall initial", clock - since, before.settings.stall_timeout_initial);
+            tally.compare(
+                "advance_cold_front: waited against stall initial",
+                clock - since,
+                before.settings.stall_timeout_initial,
+            );
             return clock - since >= before.settings.stall_timeout_initial;
         }
         Some(ColdFront::Waiting { hash, .. }) if hash == front.hash => tally.hit("advance_cold_front: waiting for another owner"),
@@ -217,6 +239,9 @@ fn arm(tally: &mut Tally, before: &State, clock: Clock) {
     tally.either("advance_pending_timeout: arms", !expired.is_empty());
     if let (Some(lowest), Some(armed)) = (before.lowest(), expired.iter().map(|entry| entry.height).min()) {
         tally.either("advance_pending_timeout: arms at the lowest height", armed == lowest.height);
-        tally.hit_if("advance_pending_timeout: two expired at the lowest height", expired.iter().filter(|entry| entry.height == armed).count() > 1);
+        tally.hit_if(
+            "advance_pending_timeout: two expired at the lowest height",
+            expired.iter().filter(|entry| entry.height == armed).count() > 1,
+        );
     }
 }
