@@ -1,16 +1,22 @@
 //! A sequence as closed checks: the digests that the definitions must give, worked out from the original's outcomes.
 
-use crate::{Sequence, spell};
+use crate::spell;
 use calls::{Answer, BlameReason, Call, Decision, Outcome, OwnedFetch, Plan, Rejection, Release, State};
 use layout::{HEAD, HEAD_USED, entry_words, hash_words};
 
 /// Places of the lent report in a check by words, and what each holds beforehand, by reason and entry.
 const LENT_PLACES: usize = 258;
-const LENT: [u64; 9] = [9, 1, 2, 3, 4, 5, 6, 7, 8];
+pub const LENT: [u64; 9] = [9, 1, 2, 3, 4, 5, 6, 7, 8];
+
+/// Calls from an opening on, with the original's outcomes.
+pub struct Sequence {
+    pub calls: Vec<Call>,
+    pub outcomes: Vec<Outcome>,
+}
 
 /// Each call on the window; the last one of some sequences also on lent words, which takes seconds.
 pub fn sequence(number: usize, sequence: &Sequence, by_words: bool) -> String {
-    let calls: Vec<String> = sequence.calls.iter().map(spell::call).collect();
+    let calls = spell::calls(&sequence.calls);
     let each = sequence.calls.iter().zip(&sequence.outcomes).map(|(call, outcome)| deed_words(call, outcome));
     let end = sequence.outcomes.last().map(|outcome| layout::encode(&outcome.state));
     let digests = each.chain(end).map(|words| digest(&words));
@@ -26,12 +32,12 @@ pub fn sequence(number: usize, sequence: &Sequence, by_words: bool) -> String {
 }
 
 /// A test that computes to `true`: an equation of lists would be refused as well, but slowly.
-fn theorem(name: &str, test: &str, calls: &str, expected: &str) -> String {
-    format!("{name} : {test} ({calls}) ({expected}) ≡ true\nunfolding {test}\n{name} = refl\n\n")
+pub fn theorem(name: &str, test: &str, arguments: &str, expected: &str) -> String {
+    format!("{name} : {test} ({arguments}) ({expected}) ≡ true\nunfolding {test}\n{name} = refl\n\n")
 }
 
 /// One number for a list of words.
-fn digest(words: &[u64]) -> u64 {
+pub fn digest(words: &[u64]) -> u64 {
     const PRIME: u128 = (1 << 61) - 1;
     words.iter().fold(0, |digest, word| ((u128::from(digest) * 1_000_003 + u128::from(*word) + 1) % PRIME) as u64)
 }

@@ -1,18 +1,18 @@
 //! Writes seeded calls with the original's answers, gone entries and states as closed antt checks of the definitions.
-//! definitions CALLS SEED MODEL OUT [--length N] [--table N]: MODEL is the folder of the model's specs, OUT the crate folder to write.
-
-mod checks;
-mod spell;
-mod template;
+//! definitions CALLS SEED MODEL OUT LENGTH TABLE: MODEL is the folder of the model's specs, OUT the crate folder to write.
 
 use calls::compare;
 use calls::events;
 use calls::generator::Profile;
+use calls::select;
 use calls::tally::Tally;
 use calls::{Call, Outcome};
+use definitions::checks::{self, Sequence};
+use definitions::closed;
 use ordered::Original;
 use std::path::Path;
-use std::{env, fs, io};
+use std::process::ExitCode;
+use std::{env, io};
 
 /// Sequences are checked in files of about this many calls.
 const CALLS_A_FILE: usize = 250;
@@ -20,12 +20,10 @@ const CALLS_A_FILE: usize = 250;
 /// In one sequence of so many, the last call is checked on lent words too.
 const SEQUENCES_A_SAMPLE: usize = 20;
 
-pub struct Sequence {
-    pub calls: Vec<Call>,
-    pub outcomes: Vec<Outcome>,
-}
+/// A run of at least so many calls is made of sequences that show every event.
+const LONG_RUN: u64 = 2_000;
 
-fn main() -> io::Result<()> {
+fn main() -> io::Result<ExitCode> {
     let arguments: Vec<String> = env::args().skip(1).collect();
     let [calls, seed, model, out, length, table] = &arguments[..] else {
         eprintln!("wanted: CALLS SEED MODEL OUT LENGTH TABLE");
@@ -34,9 +32,10 @@ fn main() -> io::Result<()> {
     let profile = Profile { mean_length: number(length), table: number(table), distinct_heights: false };
     let mut tally = Tally::default();
     let sequences = record(number(calls), number(seed), profile, &mut tally);
-    write(&sequences, Path::new(model), Path::new(out))?;
+    closed::write(Path::new(out), Path::new(model), &modules(&sequences))?;
     print_tally(&tally, &sequences);
-    Ok(())
+    let complete = number(calls) < LONG_RUN || tally.problems().is_empty();
+    Ok(if complete { ExitCode::SUCCESS } else { ExitCode::FAILURE })
 }
 
 fn number(text: &str) -> u64 {
@@ -45,7 +44,7 @@ fn number(text: &str) -> u64 {
 
 fn record(calls: u64, seed: u64, profile: Profile, tally: &mut Tally) -> Vec<Sequence> {
     let mut sequences: Vec<Sequence> = Vec::new();
-    compare::run(&mut Original::default(), seed, profile, calls, |before, call, outcome| {
+    let each = |before: Option<&Outcome>, call: &Call, outcome: &Outcome| {
         events::count(tally, before, call, outcome);
         if matches!(call, Call::Open { .. }) {
             sequences.push(Sequence { calls: Vec::new(), outcomes: Vec::new() });
@@ -53,33 +52,31 @@ fn record(calls: u64, seed: u64, profile: Profile, tally: &mut Tally) -> Vec<Seq
         let sequence = sequences.last_mut().expect("a run begins with an opening");
         sequence.calls.push(call.clone());
         sequence.outcomes.push(outcome.clone());
-    });
+    };
+    let mut window = Original::default();
+    if calls < LONG_RUN {
+        compare::run(&mut window, seed, profile, calls, each);
+    } else {
+        let chosen = select::covering(&mut window, seed, profile, calls);
+        select::run(&mut window, seed, profile, &chosen, each);
+    }
     sequences
 }
 
-/// One file for some sequences, so that a difference names its file and its theorem.
-fn write(sequences: &[Sequence], model: &Path, out: &Path) -> io::Result<()> {
-    let specs = out.join("specs");
-    fs::create_dir_all(&specs)?;
-    fs::create_dir_all(out.join("src"))?;
-    fs::write(out.join("src/lib.rt"), "// Closed checks of the definitions: no code.\n")?;
-    fs::write(specs.join("Run.antt"), template::run(model)?)?;
-    let mut modules = vec!["Run".to_string()];
-    let mut file = String::new();
-    let mut calls = 0;
+/// One module for some sequences, so that a difference names its file and its theorem.
+fn modules(sequences: &[Sequence]) -> Vec<(String, String)> {
+    let mut modules: Vec<(String, String)> = Vec::new();
+    let mut calls = CALLS_A_FILE;
     for (number, sequence) in sequences.iter().enumerate() {
-        file += &checks::sequence(number, sequence, in_sample(number, sequence));
-        calls += sequence.calls.len();
-        if calls >= CALLS_A_FILE || number + 1 == sequences.len() {
-            let module = format!("Runs{}", modules.len());
-            fs::write(specs.join(format!("{module}.antt")), format!("{}\n{file}", template::HEADER))?;
-            modules.push(module);
-            file.clear();
+        if calls >= CALLS_A_FILE {
+            modules.push((format!("Runs{}", modules.len() + 1), String::new()));
             calls = 0;
         }
+        let (_, text) = modules.last_mut().expect("a module was begun");
+        *text += &checks::sequence(number, sequence, in_sample(number, sequence));
+        calls += sequence.calls.len();
     }
-    let library: String = modules.iter().map(|module| format!("pub mod {module}\n")).collect();
-    fs::write(specs.join("Lib.antt"), library)
+    modules
 }
 
 fn in_sample(number: usize, sequence: &Sequence) -> bool {
