@@ -1,5 +1,5 @@
 //! Writes seeded calls with the original's answers, gone entries and states as closed antt checks of the definitions.
-//! definitions CALLS SEED MODEL OUT LENGTH TABLE: MODEL is the folder of the model's specs, OUT the crate folder to write.
+//! definitions CALLS SEED MODEL OUT LENGTH TABLE CALLS-A-FILE: MODEL is the folder of the model's specs, OUT the crate folder to write.
 
 use calls::compare;
 use calls::events;
@@ -14,9 +14,6 @@ use std::path::Path;
 use std::process::ExitCode;
 use std::{env, io};
 
-/// Sequences are checked in files of about this many calls.
-const CALLS_A_FILE: usize = 250;
-
 /// In one sequence of so many, the last call is checked on lent words too.
 const SEQUENCES_A_SAMPLE: usize = 20;
 
@@ -25,14 +22,14 @@ const LONG_RUN: u64 = 2_000;
 
 fn main() -> io::Result<ExitCode> {
     let arguments: Vec<String> = env::args().skip(1).collect();
-    let [calls, seed, model, out, length, table] = &arguments[..] else {
-        eprintln!("wanted: CALLS SEED MODEL OUT LENGTH TABLE");
+    let [calls, seed, model, out, length, table, a_file] = &arguments[..] else {
+        eprintln!("wanted: CALLS SEED MODEL OUT LENGTH TABLE CALLS-A-FILE");
         std::process::exit(2);
     };
     let profile = Profile { mean_length: number(length), table: number(table), distinct_heights: false };
     let mut tally = Tally::default();
     let sequences = record(number(calls), number(seed), profile, &mut tally);
-    closed::write(Path::new(out), Path::new(model), &modules(&sequences))?;
+    closed::write(Path::new(out), Path::new(model), &modules(&sequences, number(a_file) as usize))?;
     print_tally(&tally, &sequences);
     let complete = number(calls) < LONG_RUN || tally.problems().is_empty();
     Ok(if complete { ExitCode::SUCCESS } else { ExitCode::FAILURE })
@@ -64,11 +61,11 @@ fn record(calls: u64, seed: u64, profile: Profile, tally: &mut Tally) -> Vec<Seq
 }
 
 /// One module for some sequences, so that a difference names its file and its theorem.
-fn modules(sequences: &[Sequence]) -> Vec<(String, String)> {
+fn modules(sequences: &[Sequence], a_file: usize) -> Vec<(String, String)> {
     let mut modules: Vec<(String, String)> = Vec::new();
-    let mut calls = CALLS_A_FILE;
+    let mut calls = a_file;
     for (number, sequence) in sequences.iter().enumerate() {
-        if calls >= CALLS_A_FILE {
+        if calls >= a_file {
             modules.push((format!("Runs{}", modules.len() + 1), String::new()));
             calls = 0;
         }

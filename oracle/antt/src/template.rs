@@ -39,10 +39,10 @@ const TESTS: [(&str, &str, &[(&str, &str)], &str); 6] = [
         "refusals-by-words (cut n l (encode (end-of cs nowhere))) rooms xs",
     ),
     (
-        "whether its words, changed in these ways, count as a window",
+        "whether its table, changed in these ways, counts as a window",
         "counts-as",
         &[("cs", "List Call"), ("ls", "List (List ℕ)")],
-        "verdicts (encode (end-of cs nowhere)) ls",
+        "verdicts (table (end-of cs nowhere)) ls",
     ),
     (
         "whether a call on its words, n of them, some of them changed, and on so many report places, answers and leaves these",
@@ -59,7 +59,7 @@ fn test(about: &str, name: &str, arguments: &[(&str, &str)], is: &str, opened: &
 }
 
 /// Definitions of `Run.antt` itself, and of the library, that a run opens.
-const OWN: [&str; 18] = [
+const OWN: [&str; 21] = [
     "equal",
     "digest",
     "filled",
@@ -76,12 +76,17 @@ const OWN: [&str; 18] = [
     "changed-at",
     "cut",
     "refusals-by-words",
+    "entry-changed",
+    "table-changed",
+    "table-with",
     "verdicts",
     "ones onesIn",
 ];
 
 /// Names that `Run.antt` uses beside the definitions it opens.
-const EXTRA: [(&str, &str); 16] = [
+const EXTRA: [(&str, &str); 18] = [
+    ("Layout", "Table"),
+    ("Layout", "blank"),
     ("Window", "Window"),
     ("Hash", "hash"),
     ("Refusals", "Call"),

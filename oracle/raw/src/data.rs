@@ -55,6 +55,56 @@ pub enum Call {
     Query(calls::Call),
 }
 
+impl Call {
+    /// The clock, of a call that takes one.
+    pub fn clock_mut(&mut self) -> Option<&mut Clock> {
+        match self {
+            Call::Open { clock, .. }
+            | Call::MarkRequested { clock, .. }
+            | Call::MarkOwnedFetch { clock, .. }
+            | Call::MarkReceivedFrom { clock, .. }
+            | Call::CreditDeliveryFrom { clock, .. }
+            | Call::RejectDelivery { clock, .. }
+            | Call::ExpirePending { clock }
+            | Call::RequeueForRetry { clock, .. }
+            | Call::ReleasePending { clock, .. }
+            | Call::RetireBefore { clock, .. }
+            | Call::MarkPeerUnresponsive { clock, .. }
+            | Call::ConfirmPrefixProbe { clock, .. }
+            | Call::ObserveBlocked { clock, .. }
+            | Call::SetFanoutEligiblePeers { clock, .. }
+            | Call::ExpiredPendingCapacity { clock }
+            | Call::PeerHasExpiredPending { clock, .. }
+            | Call::PeerInStallerCooldown { clock, .. } => Some(clock),
+            _ => None,
+        }
+    }
+
+    /// The seats and keys that a call names, those in its lists too.
+    pub fn seats_mut(&mut self) -> Vec<&mut u64> {
+        match self {
+            Call::Open { keys, .. } => keys.iter_mut().collect(),
+            Call::ConfirmPrefixProbe { owner, alternates, .. } => [owner].into_iter().chain(alternates).collect(),
+            Call::ConfirmColdFrontHedge { owner, alternate, .. } => vec![owner, alternate],
+            Call::MarkReceivedFrom { source, .. } | Call::RejectDelivery { source, .. } => source.iter_mut().collect(),
+            Call::MarkRequested { owner: seat, .. }
+            | Call::MarkOwnedFetch { owner: seat, .. }
+            | Call::CreditDeliveryFrom { source: seat, .. }
+            | Call::CreditDuplicateDelivery { source: seat, .. }
+            | Call::MarkPeerUnresponsive { source: seat, .. }
+            | Call::ComputeRequestCapacity { source: seat, .. }
+            | Call::PeerHasExpiredPending { source: seat, .. }
+            | Call::PeerInStallerCooldown { source: seat, .. }
+            | Call::ProbeOffered { source: seat, .. }
+            | Call::HedgeOffered { source: seat, .. }
+            | Call::IsDownloading { owner: seat }
+            | Call::PendingCountFor { source: seat }
+            | Call::OwnerQueueStart { owner: seat } => vec![seat],
+            _ => Vec::new(),
+        }
+    }
+}
+
 /// A call's name, as the original has it.
 pub fn kind(call: &Call) -> String {
     let text = match call {

@@ -1,7 +1,7 @@
 //! 01, "Who can cause a refusal".
 
 use crate::Call;
-use calls::{Clock, MAX_BODY, MAX_CLOCK, MAX_PENDING, SEATS, State};
+use calls::{MAX_BODY, MAX_CLOCK, MAX_PENDING, SEATS, State};
 use layout::{WORDS, decode, hash_words, is_window, settings_in_range};
 use std::collections::BTreeSet;
 
@@ -18,11 +18,12 @@ pub fn causes(call: &Call, words: &[u64], places: usize) -> Vec<u8> {
     let window = decode(words).filter(|_| is_window(words));
     let opening = matches!(call, Call::Open { .. });
     let last_clock = if opening { Some(0) } else { window.as_ref().map(|state| state.last_clock) };
+    let clock = call.clone().clock_mut().copied();
     let holds = [
         words.len() != WORDS,
         !opening && window.is_none(),
         lets_go(call) && places < LEAST_REPORT,
-        clock(call).is_some_and(|clock| clock > MAX_CLOCK || last_clock.is_some_and(|last| clock < last)),
+        clock.is_some_and(|clock| clock > MAX_CLOCK || last_clock.is_some_and(|last| clock < last)),
         matches!(call, Call::Open { settings, .. } if !settings_in_range(settings)),
         !peers_in_range(call),
         window.as_ref().is_some_and(|state| lists_known(call, state)),
@@ -47,54 +48,14 @@ fn lets_go(call: &Call) -> bool {
     )
 }
 
-/// 4: the clock, of a call that takes one.
-fn clock(call: &Call) -> Option<Clock> {
-    match call {
-        Call::Open { clock, .. }
-        | Call::MarkRequested { clock, .. }
-        | Call::MarkOwnedFetch { clock, .. }
-        | Call::MarkReceivedFrom { clock, .. }
-        | Call::CreditDeliveryFrom { clock, .. }
-        | Call::RejectDelivery { clock, .. }
-        | Call::ExpirePending { clock }
-        | Call::RequeueForRetry { clock, .. }
-        | Call::ReleasePending { clock, .. }
-        | Call::RetireBefore { clock, .. }
-        | Call::MarkPeerUnresponsive { clock, .. }
-        | Call::ConfirmPrefixProbe { clock, .. }
-        | Call::ObserveBlocked { clock, .. }
-        | Call::SetFanoutEligiblePeers { clock, .. }
-        | Call::ExpiredPendingCapacity { clock }
-        | Call::PeerHasExpiredPending { clock, .. }
-        | Call::PeerInStallerCooldown { clock, .. } => Some(*clock),
-        _ => None,
-    }
-}
-
 /// 6: seats and keys; 256 flags or keys; at most 256 alternates.
 fn peers_in_range(call: &Call) -> bool {
-    let seat = |seat: &u64| *seat < SEATS as u64;
-    match call {
-        Call::Open { keys, .. } => keys.len() == SEATS && keys.iter().all(seat),
-        Call::RetainOwnedBy { flags } => flags.len() == SEATS,
-        Call::ConfirmPrefixProbe { owner, alternates, .. } => seat(owner) && alternates.len() <= SEATS && alternates.iter().all(seat),
-        Call::ConfirmColdFrontHedge { owner, alternate, .. } => seat(owner) && seat(alternate),
-        Call::MarkReceivedFrom { source, .. } | Call::RejectDelivery { source, .. } => source.iter().all(seat),
-        Call::MarkRequested { owner, .. }
-        | Call::MarkOwnedFetch { owner, .. }
-        | Call::IsDownloading { owner }
-        | Call::OwnerQueueStart { owner } => seat(owner),
-        Call::CreditDeliveryFrom { source, .. }
-        | Call::CreditDuplicateDelivery { source, .. }
-        | Call::MarkPeerUnresponsive { source, .. }
-        | Call::ComputeRequestCapacity { source, .. }
-        | Call::PeerHasExpiredPending { source, .. }
-        | Call::PeerInStallerCooldown { source, .. }
-        | Call::ProbeOffered { source, .. }
-        | Call::HedgeOffered { source, .. }
-        | Call::PendingCountFor { source } => seat(source),
+    let lists_fit = match call {
+        Call::Open { keys: list, .. } | Call::RetainOwnedBy { flags: list } => list.len() == SEATS,
+        Call::ConfirmPrefixProbe { alternates, .. } => alternates.len() <= SEATS,
         _ => true,
-    }
+    };
+    lists_fit && call.clone().seats_mut().iter().all(|seat| **seat < SEATS as u64)
 }
 
 /// The hashes that a request lists.
