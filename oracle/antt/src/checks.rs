@@ -14,21 +14,21 @@ pub struct Sequence {
     pub outcomes: Vec<Outcome>,
 }
 
-/// Each call on the window; the last one of some sequences also on lent words, which takes seconds.
-pub fn sequence(number: usize, sequence: &Sequence, by_words: bool) -> String {
-    let calls = spell::calls(&sequence.calls);
+/// Each call on the window.
+pub fn sequence(number: usize, sequence: &Sequence) -> String {
     let each = sequence.calls.iter().zip(&sequence.outcomes).map(|(call, outcome)| deed_words(call, outcome));
     let end = sequence.outcomes.last().map(|outcome| layout::encode(&outcome.state));
     let digests = each.chain(end).map(|words| digest(&words));
-    let mut text = theorem(&format!("run-{number}"), "runs", &spell::list(&calls), &spell::list(digests));
-    if let [earlier @ .., last] = &calls[..]
-        && by_words
-    {
-        let (call, outcome) = (&sequence.calls[earlier.len()], &sequence.outcomes[earlier.len()]);
-        let expected = [answer_words(call, outcome), layout::encode(&outcome.state), report_words(&outcome.gone)].map(|words| digest(&words));
-        text += &theorem(&format!("last-{number}"), "ends", &format!("{}) ({last}", spell::list(earlier)), &spell::list(expected));
-    }
-    text
+    theorem(&format!("run-{number}"), "runs", &spell::list(spell::calls(&sequence.calls)), &spell::list(digests))
+}
+
+/// The last call of a sequence on lent words and a lent report.
+pub fn by_words(number: usize, sequence: &Sequence) -> String {
+    let calls = spell::calls(&sequence.calls);
+    let (last, earlier) = calls.split_last().expect("a sequence has an opening");
+    let (call, outcome) = (&sequence.calls[earlier.len()], &sequence.outcomes[earlier.len()]);
+    let expected = [answer_words(call, outcome), layout::encode(&outcome.state), report_words(&outcome.gone)].map(|words| digest(&words));
+    theorem(&format!("last-{number}"), "ends", &format!("{}) ({last}", spell::list(earlier)), &spell::list(expected))
 }
 
 /// A test that computes to `true`: an equation of lists would be refused as well, but slowly.

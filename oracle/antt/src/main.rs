@@ -10,11 +10,13 @@ use calls::{Call, Outcome};
 use definitions::checks::{self, Sequence};
 use definitions::closed;
 use ordered::Original;
+use std::cmp::Reverse;
+use std::collections::BTreeSet;
 use std::path::Path;
 use std::process::ExitCode;
 use std::{env, io};
 
-/// In one sequence of so many, the last call is checked on lent words too.
+/// In one sequence of so many, the last call is checked on lent words too, which takes seconds.
 const SEQUENCES_A_SAMPLE: usize = 20;
 
 /// A run of at least so many calls is made of sequences that show every event.
@@ -57,10 +59,10 @@ fn record(calls: u64, seed: u64, profile: Profile, tally: &mut Tally) -> Vec<Seq
         let chosen = select::covering(&mut window, seed, profile, calls);
         select::run(&mut window, seed, profile, &chosen, each);
     }
-    sequences
+    if calls < LONG_RUN { sequences } else { by_news(sequences) }
 }
 
-/// One module for some sequences, so that a difference names its file and its theorem.
+/// One module for some sequences, so that a difference names its file and its theorem; then one for each call by words.
 fn modules(sequences: &[Sequence], a_file: usize) -> Vec<(String, String)> {
     let mut modules: Vec<(String, String)> = Vec::new();
     let mut calls = a_file;
@@ -70,10 +72,39 @@ fn modules(sequences: &[Sequence], a_file: usize) -> Vec<(String, String)> {
             calls = 0;
         }
         let (_, text) = modules.last_mut().expect("a module was begun");
-        *text += &checks::sequence(number, sequence, in_sample(number, sequence));
+        *text += &checks::sequence(number, sequence);
         calls += sequence.calls.len();
     }
+    let sample = sequences.iter().enumerate().filter(|(number, sequence)| in_sample(*number, sequence));
+    modules.extend(sample.map(|(number, sequence)| (format!("Words{number}"), checks::by_words(number, sequence))));
     modules
+}
+
+/// The sequences that show the most new events a call come first.
+fn by_news(sequences: Vec<Sequence>) -> Vec<Sequence> {
+    let with_events = |sequence| (events_of(&sequence), sequence);
+    let mut left: Vec<(BTreeSet<String>, Sequence)> = sequences.into_iter().map(with_events).collect();
+    let mut shown: BTreeSet<String> = BTreeSet::new();
+    let mut ordered = Vec::new();
+    while !left.is_empty() {
+        let news = |(events, sequence): &(BTreeSet<String>, Sequence)| {
+            1_000 * events.difference(&shown).count() / sequence.calls.len()
+        };
+        let best = (0..left.len()).max_by_key(|place| (news(&left[*place]), Reverse(*place))).expect("some are left");
+        let (events, sequence) = left.remove(best);
+        shown.extend(events);
+        ordered.push(sequence);
+    }
+    ordered
+}
+
+fn events_of(sequence: &Sequence) -> BTreeSet<String> {
+    let mut tally = Tally::default();
+    let befores = [None].into_iter().chain(sequence.outcomes.iter().map(Some));
+    for ((before, call), outcome) in befores.zip(&sequence.calls).zip(&sequence.outcomes) {
+        events::count(&mut tally, before, call, outcome);
+    }
+    tally.happened()
 }
 
 fn in_sample(number: usize, sequence: &Sequence) -> bool {
