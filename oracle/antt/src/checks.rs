@@ -27,7 +27,8 @@ pub fn by_words(number: usize, sequence: &Sequence) -> String {
     let calls = spell::calls(&sequence.calls);
     let (last, earlier) = calls.split_last().expect("a sequence has an opening");
     let (call, outcome) = (&sequence.calls[earlier.len()], &sequence.outcomes[earlier.len()]);
-    let expected = [answer_words(call, outcome), layout::encode(&outcome.state), report_words(&outcome.gone)].map(|words| digest(&words));
+    let expected =
+        [answer_words(call, outcome), layout::encode(&outcome.state), report_words(&outcome.gone)].map(|words| digest(&words));
     theorem(&format!("last-{number}"), "ends", &format!("{}) ({last}", spell::list(earlier)), &spell::list(expected))
 }
 
@@ -107,7 +108,9 @@ fn decision_values(decision: &Decision) -> Vec<u64> {
         Decision::None => vec![0],
         Decision::Blame { owner, reason: BlameReason::Staller } => vec![1, (*owner).into()],
         Decision::Blame { owner, reason: BlameReason::PendingTimeout } => vec![2, (*owner).into()],
-        Decision::EvictStaged { height, hash, suppressed_for } => [&[3, (*height).into(), *suppressed_for][..], &hash_words(hash)].concat(),
+        Decision::EvictStaged { height, hash, suppressed_for } => {
+            [&[3, (*height).into(), *suppressed_for][..], &hash_words(hash)].concat()
+        }
         Decision::HedgeColdFront { owner, front_hash } => [&[4, (*owner).into()][..], &hash_words(front_hash)].concat(),
     }
 }

@@ -14,7 +14,7 @@ use std::cmp::Reverse;
 use std::collections::BTreeSet;
 use std::path::Path;
 use std::process::ExitCode;
-use std::{env, io};
+use std::{env, fs, io};
 
 /// In one sequence of so many, the last call is checked on lent words too, which takes seconds.
 const SEQUENCES_A_SAMPLE: usize = 20;
@@ -31,7 +31,9 @@ fn main() -> io::Result<ExitCode> {
     let profile = Profile { mean_length: number(length), table: number(table), distinct_heights: false };
     let mut tally = Tally::default();
     let sequences = record(number(calls), number(seed), profile, &mut tally);
-    closed::write(Path::new(out), Path::new(model), &modules(&sequences, number(a_file) as usize))?;
+    let (modules, index) = modules(&sequences, number(a_file) as usize);
+    closed::write(Path::new(out), Path::new(model), &modules)?;
+    fs::write(Path::new(out).join("events.txt"), index)?;
     print_tally(&tally, &sequences);
     let complete = number(calls) < LONG_RUN || tally.problems().is_empty();
     Ok(if complete { ExitCode::SUCCESS } else { ExitCode::FAILURE })
@@ -62,8 +64,10 @@ fn record(calls: u64, seed: u64, profile: Profile, tally: &mut Tally) -> Vec<Seq
     if calls < LONG_RUN { sequences } else { by_news(sequences) }
 }
 
-/// One module for some sequences, so that a difference names its file and its theorem; then one for each call by words.
-fn modules(sequences: &[Sequence], a_file: usize) -> Vec<(String, String)> {
+/// One module for some sequences, so that a difference names its file and its theorem; then one for each call by words. With them a line
+/// for each module and each event that it shows.
+fn modules(sequences: &[Sequence], a_file: usize) -> (Vec<(String, String)>, String) {
+    let mut index = String::new();
     let mut modules: Vec<(String, String)> = Vec::new();
     let mut calls = a_file;
     for (number, sequence) in sequences.iter().enumerate() {
@@ -71,13 +75,14 @@ fn modules(sequences: &[Sequence], a_file: usize) -> Vec<(String, String)> {
             modules.push((format!("Runs{}", modules.len() + 1), String::new()));
             calls = 0;
         }
-        let (_, text) = modules.last_mut().expect("a module was begun");
+        let (name, text) = modules.last_mut().expect("a module was begun");
         *text += &checks::sequence(number, sequence);
+        index.extend(events_of(sequence).iter().map(|event| format!("{name}\t{event}\n")));
         calls += sequence.calls.len();
     }
     let sample = sequences.iter().enumerate().filter(|(number, sequence)| in_sample(*number, sequence));
     modules.extend(sample.map(|(number, sequence)| (format!("Words{number}"), checks::by_words(number, sequence))));
-    modules
+    (modules, index)
 }
 
 /// The sequences that show the most new events a call come first.
@@ -87,9 +92,8 @@ fn by_news(sequences: Vec<Sequence>) -> Vec<Sequence> {
     let mut shown: BTreeSet<String> = BTreeSet::new();
     let mut ordered = Vec::new();
     while !left.is_empty() {
-        let news = |(events, sequence): &(BTreeSet<String>, Sequence)| {
-            1_000 * events.difference(&shown).count() / sequence.calls.len()
-        };
+        let news =
+            |(events, sequence): &(BTreeSet<String>, Sequence)| 1_000 * events.difference(&shown).count() / sequence.calls.len();
         let best = (0..left.len()).max_by_key(|place| (news(&left[*place]), Reverse(*place))).expect("some are left");
         let (events, sequence) = left.remove(best);
         shown.extend(events);
@@ -120,5 +124,8 @@ fn print_tally(tally: &Tally, sequences: &[Sequence]) {
     }
     let calls: usize = sequences.iter().map(|sequence| sequence.calls.len()).sum();
     let by_words = sequences.iter().enumerate().filter(|(number, sequence)| in_sample(*number, sequence)).count();
-    println!("{} sequences, {calls} calls; words at each sequence's end; {by_words} calls on lent words and a lent report", sequences.len());
+    println!(
+        "{} sequences, {calls} calls; words at each sequence's end; {by_words} calls on lent words and a lent report",
+        sequences.len()
+    );
 }

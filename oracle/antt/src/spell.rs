@@ -69,8 +69,12 @@ fn change(call: &Call) -> Option<String> {
         Call::MarkOwnedFetch { clock, owner, hash: h, height, staged, byte_headroom, count_headroom } => {
             format!("fetches {clock} {owner} {} {height} {staged} {byte_headroom} {count_headroom}", hash(h))
         }
-        Call::MarkReceivedFrom { clock, hash: h, bytes, source: from } => format!("receives {clock} {} {bytes} {}", hash(h), source(*from)),
-        Call::CreditDeliveryFrom { clock, hash: h, source, pending_height } => format!("credits {clock} {} {source} {}", hash(h), height(*pending_height)),
+        Call::MarkReceivedFrom { clock, hash: h, bytes, source: from } => {
+            format!("receives {clock} {} {bytes} {}", hash(h), source(*from))
+        }
+        Call::CreditDeliveryFrom { clock, hash: h, source, pending_height } => {
+            format!("credits {clock} {} {source} {}", hash(h), height(*pending_height))
+        }
         Call::CreditDuplicateDelivery { hash: h, source } => format!("credits-duplicate {} {source}", hash(h)),
         Call::RejectDelivery { clock, hash: h, source: from } => format!("rejects {clock} {} {}", hash(h), source(*from)),
         Call::ExpirePending { clock } => format!("expires {clock}"),
@@ -91,7 +95,11 @@ fn race_or_look(call: &Call) -> Option<String> {
         Call::ConfirmColdFrontHedge { owner, alternate, hash: h } => format!("confirms-hedge {owner} {alternate} {}", hash(h)),
         Call::ObserveBlocked { clock, next_apply_height, frontier_hash, busy, staged_count, staged_height } => {
             let frontier = frontier_hash.as_ref().map_or("NoHash".to_string(), |h| format!("(Exactly {})", hash(h)));
-            format!("observes {clock} (look {} {frontier} {busy} {staged_count} {})", height(*next_apply_height), height(*staged_height))
+            format!(
+                "observes {clock} (look {} {frontier} {busy} {staged_count} {})",
+                height(*next_apply_height),
+                height(*staged_height)
+            )
         }
         Call::SetFanoutEligiblePeers { clock, count } => format!("sets-fanout {clock} {count}"),
         Call::ClearPreferredPeer => "clears-preferred".to_string(),
@@ -101,7 +109,9 @@ fn race_or_look(call: &Call) -> Option<String> {
 
 fn query(call: &Call) -> String {
     match call {
-        Call::ComputeRequestCapacity { source, byte_headroom, count_headroom } => format!("asks-compute-capacity {source} {byte_headroom} {count_headroom}"),
+        Call::ComputeRequestCapacity { source, byte_headroom, count_headroom } => {
+            format!("asks-compute-capacity {source} {byte_headroom} {count_headroom}")
+        }
         Call::ExpiredPendingCapacity { clock } => format!("asks-expired-capacity {clock}"),
         Call::PeerHasExpiredPending { source, clock } => format!("asks-has-expired {source} {clock}"),
         Call::PeerInStallerCooldown { source, clock } => format!("asks-cooldown {source} {clock}"),

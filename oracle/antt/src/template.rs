@@ -7,7 +7,26 @@ pub const HEADER: &str = include_str!("../Header.antt.txt");
 
 /// `Run.antt`: its last definitions, the tests, open all that a run uses, so that a check names its test alone and is `refl`.
 pub fn run(model: &Path) -> io::Result<String> {
-    let modules = ["Lists", "Numbers", "Hash", "Window", "Records", "Seats", "Time", "Pace", "Cooling", "Capacity", "Reasons", "LettingGo", "Races", "Calls", "Observation", "Layout", "Refusals", "Perform"];
+    let modules = [
+        "Lists",
+        "Numbers",
+        "Hash",
+        "Window",
+        "Records",
+        "Seats",
+        "Time",
+        "Pace",
+        "Cooling",
+        "Capacity",
+        "Reasons",
+        "LettingGo",
+        "Races",
+        "Calls",
+        "Observation",
+        "Layout",
+        "Refusals",
+        "Perform",
+    ];
     let mut imports = String::new();
     let mut opened: Vec<String> = OWN.iter().map(ToString::to_string).collect();
     for module in modules {
@@ -55,7 +74,9 @@ const TESTS: [(&str, &str, &[(&str, &str)], &str); 6] = [
 fn test(about: &str, name: &str, arguments: &[(&str, &str)], is: &str, opened: &str) -> String {
     let types: String = arguments.iter().map(|(_, kind)| format!("{kind} → ")).collect();
     let names: String = arguments.iter().map(|(name, _)| format!("{name} ")).collect();
-    format!("-- {about}\nunfoldable pub {name} : {types}List ℕ → Bool\nunfolding {opened}\n{name} {names}expected = equal ({is}) expected\n\n")
+    format!(
+        "-- {about}\nunfoldable pub {name} : {types}List ℕ → Bool\nunfolding {opened}\n{name} {names}expected = equal ({is}) expected\n\n"
+    )
 }
 
 /// Definitions of `Run.antt` itself, and of the library, that a run opens.
@@ -106,5 +127,9 @@ const EXTRA: [(&str, &str); 18] = [
 ];
 
 fn unfoldable(text: &str) -> Vec<String> {
-    text.lines().filter_map(|line| line.trim_start().strip_prefix("unfoldable pub ")).filter_map(|rest| rest.split(' ').next()).map(str::to_string).collect()
+    text.lines()
+        .filter_map(|line| line.trim_start().strip_prefix("unfoldable pub "))
+        .filter_map(|rest| rest.split(' ').next())
+        .map(str::to_string)
+        .collect()
 }

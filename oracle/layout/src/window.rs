@@ -19,7 +19,8 @@ fn counts(state: &State) -> bool {
     let conditions = [
         state.pending.windows(2).all(|pair| pair[0].hash < pair[1].hash),
         state.last_clock <= MAX_CLOCK && times(state).iter().all(|time| *time <= state.last_clock),
-        state.pending.iter().all(|entry| ESTIMATES.contains(&entry.estimated_bytes)) && ESTIMATES.contains(&state.ewma_block_bytes),
+        state.pending.iter().all(|entry| ESTIMATES.contains(&entry.estimated_bytes))
+            && ESTIMATES.contains(&state.ewma_block_bytes),
         u128::from(state.pending_bytes) == state.pending.iter().map(|entry| u128::from(entry.estimated_bytes)).sum::<u128>(),
         state.pending_blocks_high_water >= state.pending.len() as u64 && state.pending_bytes_high_water >= state.pending_bytes,
         starts_belong(state),

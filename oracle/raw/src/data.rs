@@ -5,7 +5,11 @@ use layout::hash_words;
 
 #[derive(Clone, Debug, PartialEq, Eq)]
 pub enum Call {
-    Open { clock: Clock, settings: Settings, keys: Vec<u64> },
+    Open {
+        clock: Clock,
+        settings: Settings,
+        keys: Vec<u64>,
+    },
     /// Four words a hash; as many entries as both lists hold whole.
     MarkRequested {
         clock: Clock,
@@ -16,21 +20,72 @@ pub enum Call {
         byte_headroom: u64,
         count_headroom: u64,
     },
-    MarkOwnedFetch { clock: Clock, owner: u64, hash: Hash, height: u32, staged: bool, byte_headroom: u64, count_headroom: u64 },
-    MarkReceivedFrom { clock: Clock, hash: Hash, bytes: u64, source: Option<u64> },
-    CreditDeliveryFrom { clock: Clock, hash: Hash, source: u64, pending_height: Option<u32> },
-    CreditDuplicateDelivery { hash: Hash, source: u64 },
-    RejectDelivery { clock: Clock, hash: Hash, source: Option<u64> },
-    ExpirePending { clock: Clock },
-    RequeueForRetry { clock: Clock, hash: Hash, height: Option<u32> },
-    ReleasePending { clock: Clock, hash: Hash },
-    RetireBefore { clock: Clock, height: u32 },
+    MarkOwnedFetch {
+        clock: Clock,
+        owner: u64,
+        hash: Hash,
+        height: u32,
+        staged: bool,
+        byte_headroom: u64,
+        count_headroom: u64,
+    },
+    MarkReceivedFrom {
+        clock: Clock,
+        hash: Hash,
+        bytes: u64,
+        source: Option<u64>,
+    },
+    CreditDeliveryFrom {
+        clock: Clock,
+        hash: Hash,
+        source: u64,
+        pending_height: Option<u32>,
+    },
+    CreditDuplicateDelivery {
+        hash: Hash,
+        source: u64,
+    },
+    RejectDelivery {
+        clock: Clock,
+        hash: Hash,
+        source: Option<u64>,
+    },
+    ExpirePending {
+        clock: Clock,
+    },
+    RequeueForRetry {
+        clock: Clock,
+        hash: Hash,
+        height: Option<u32>,
+    },
+    ReleasePending {
+        clock: Clock,
+        hash: Hash,
+    },
+    RetireBefore {
+        clock: Clock,
+        height: u32,
+    },
     /// A flag a seat, nonzero for owned.
-    RetainOwnedBy { flags: Vec<u64> },
-    MarkPeerUnresponsive { clock: Clock, source: u64 },
+    RetainOwnedBy {
+        flags: Vec<u64>,
+    },
+    MarkPeerUnresponsive {
+        clock: Clock,
+        source: u64,
+    },
     /// Four words a hash.
-    ConfirmPrefixProbe { clock: Clock, owner: u64, hashes: Vec<u64>, alternates: Vec<u64> },
-    ConfirmColdFrontHedge { owner: u64, alternate: u64, hash: Hash },
+    ConfirmPrefixProbe {
+        clock: Clock,
+        owner: u64,
+        hashes: Vec<u64>,
+        alternates: Vec<u64>,
+    },
+    ConfirmColdFrontHedge {
+        owner: u64,
+        alternate: u64,
+        hash: Hash,
+    },
     ObserveBlocked {
         clock: Clock,
         next_apply_height: Option<u32>,
@@ -39,18 +94,45 @@ pub enum Call {
         staged_count: u64,
         staged_height: Option<u32>,
     },
-    SetFanoutEligiblePeers { clock: Clock, count: u64 },
+    SetFanoutEligiblePeers {
+        clock: Clock,
+        count: u64,
+    },
     ClearPreferredPeer,
     // The queries that take a clock or a seat.
-    ComputeRequestCapacity { source: u64, byte_headroom: u64, count_headroom: u64 },
-    ExpiredPendingCapacity { clock: Clock },
-    PeerHasExpiredPending { source: u64, clock: Clock },
-    PeerInStallerCooldown { source: u64, clock: Clock },
-    ProbeOffered { source: u64, hash: Hash },
-    HedgeOffered { source: u64, hash: Hash },
-    IsDownloading { owner: u64 },
-    PendingCountFor { source: u64 },
-    OwnerQueueStart { owner: u64 },
+    ComputeRequestCapacity {
+        source: u64,
+        byte_headroom: u64,
+        count_headroom: u64,
+    },
+    ExpiredPendingCapacity {
+        clock: Clock,
+    },
+    PeerHasExpiredPending {
+        source: u64,
+        clock: Clock,
+    },
+    PeerInStallerCooldown {
+        source: u64,
+        clock: Clock,
+    },
+    ProbeOffered {
+        source: u64,
+        hash: Hash,
+    },
+    HedgeOffered {
+        source: u64,
+        hash: Hash,
+    },
+    IsDownloading {
+        owner: u64,
+    },
+    PendingCountFor {
+        source: u64,
+    },
+    OwnerQueueStart {
+        owner: u64,
+    },
     /// Any other query: nothing in it can be out of range.
     Query(calls::Call),
 }
@@ -122,7 +204,15 @@ impl From<&calls::Call> for Call {
             From::MarkRequested { clock, owner, entries, next_request_height, byte_headroom, count_headroom } => {
                 let (hashes, heights): (Vec<Hash>, Vec<u32>) = entries.into_iter().unzip();
                 let hashes = words(&hashes);
-                Call::MarkRequested { clock, owner: owner.into(), hashes, heights, next_request_height, byte_headroom, count_headroom }
+                Call::MarkRequested {
+                    clock,
+                    owner: owner.into(),
+                    hashes,
+                    heights,
+                    next_request_height,
+                    byte_headroom,
+                    count_headroom,
+                }
             }
             From::MarkOwnedFetch { clock, owner, hash, height, staged, byte_headroom, count_headroom } => {
                 Call::MarkOwnedFetch { clock, owner: owner.into(), hash, height, staged, byte_headroom, count_headroom }

@@ -55,7 +55,11 @@ fn main() -> io::Result<()> {
     }
     closed::write(Path::new(out), Path::new(model), &modules)?;
     counts.print();
-    println!("{} calls tried, {changes} changes of a window's words judged, {} calls performed in full", counts.total(), PERFORMED.len());
+    println!(
+        "{} calls tried, {changes} changes of a window's words judged, {} calls performed in full",
+        counts.total(),
+        PERFORMED.len()
+    );
     Ok(())
 }
 
@@ -112,7 +116,11 @@ fn on_generated<'a>(windows: impl Iterator<Item = &'a Window>, seed: u64, counts
 fn refuses(window: &Window, of: &str, tries: &[Try], counts: &mut Counts) -> String {
     let words = encode(&window.state);
     let expected: Vec<u8> = tries.iter().map(|tried| counts.of(tried, &words)).collect();
-    let arguments = [spell::list(spell::calls(&window.calls)), places(tries), spell::list(tries.iter().map(|tried| spell::call(&tried.call)))];
+    let arguments = [
+        spell::list(spell::calls(&window.calls)),
+        places(tries),
+        spell::list(tries.iter().map(|tried| spell::call(&tried.call))),
+    ];
     theorem(&format!("{}-{of}", window.name), "refuses", &arguments.join(") ("), &spell::list(expected))
 }
 

@@ -42,7 +42,8 @@ fn counts(words: &[u64], changed: &[(usize, u64)]) -> bool {
 /// Every limit of docs/LAYOUT.md, and the window's own times.
 fn values(window: &Window) -> BTreeSet<u64> {
     let state = &window.state;
-    let limits = [0, 1, 2, 8, 79, 255, 256, 65_535, u64::from(u32::MAX), 1 << 40, 1_000_000_000_000_000, MAX_CLOCK / 1_000_000 + 1];
+    let limits =
+        [0, 1, 2, 8, 79, 255, 256, 65_535, u64::from(u32::MAX), 1 << 40, 1_000_000_000_000_000, MAX_CLOCK / 1_000_000 + 1];
     let starts = state.owner_downloading_since.iter().map(|(_, start)| *start);
     let times: Vec<Clock> = state.pending.iter().map(|entry| entry.requested_at).chain(starts).collect();
     let clocks = [state.last_clock, MAX_CLOCK, state.pending.len() as u64, state.pending_bytes];
