@@ -1,37 +1,44 @@
 //! A sequence as closed checks: the digests that the definitions must give, worked out from the original's outcomes.
 
-use crate::{Sequence, spell};
+use crate::spell;
 use calls::{Answer, BlameReason, Call, Decision, Outcome, OwnedFetch, Plan, Rejection, Release, State};
 use layout::{HEAD, HEAD_USED, entry_words, hash_words};
 
 /// Places of the lent report in a check by words, and what each holds beforehand, by reason and entry.
 const LENT_PLACES: usize = 258;
-const LENT: [u64; 9] = [9, 1, 2, 3, 4, 5, 6, 7, 8];
+pub const LENT: [u64; 9] = [9, 1, 2, 3, 4, 5, 6, 7, 8];
 
-/// Each call on the window; the last one of some sequences also on lent words, which takes seconds.
-pub fn sequence(number: usize, sequence: &Sequence, by_words: bool) -> String {
-    let calls: Vec<String> = sequence.calls.iter().map(spell::call).collect();
+/// Calls from an opening on, with the original's outcomes.
+pub struct Sequence {
+    pub calls: Vec<Call>,
+    pub outcomes: Vec<Outcome>,
+}
+
+/// Each call on the window.
+pub fn sequence(number: usize, sequence: &Sequence) -> String {
     let each = sequence.calls.iter().zip(&sequence.outcomes).map(|(call, outcome)| deed_words(call, outcome));
     let end = sequence.outcomes.last().map(|outcome| layout::encode(&outcome.state));
     let digests = each.chain(end).map(|words| digest(&words));
-    let mut text = theorem(&format!("run-{number}"), "runs", &spell::list(&calls), &spell::list(digests));
-    if let [earlier @ .., last] = &calls[..]
-        && by_words
-    {
-        let (call, outcome) = (&sequence.calls[earlier.len()], &sequence.outcomes[earlier.len()]);
-        let expected = [answer_words(call, outcome), layout::encode(&outcome.state), report_words(&outcome.gone)].map(|words| digest(&words));
-        text += &theorem(&format!("last-{number}"), "ends", &format!("{}) ({last}", spell::list(earlier)), &spell::list(expected));
-    }
-    text
+    theorem(&format!("run-{number}"), "runs", &spell::list(spell::calls(&sequence.calls)), &spell::list(digests))
+}
+
+/// The last call of a sequence on lent words and a lent report.
+pub fn by_words(number: usize, sequence: &Sequence) -> String {
+    let calls = spell::calls(&sequence.calls);
+    let (last, earlier) = calls.split_last().expect("a sequence has an opening");
+    let (call, outcome) = (&sequence.calls[earlier.len()], &sequence.outcomes[earlier.len()]);
+    let expected =
+        [answer_words(call, outcome), layout::encode(&outcome.state), report_words(&outcome.gone)].map(|words| digest(&words));
+    theorem(&format!("last-{number}"), "ends", &format!("{}) ({last}", spell::list(earlier)), &spell::list(expected))
 }
 
 /// A test that computes to `true`: an equation of lists would be refused as well, but slowly.
-fn theorem(name: &str, test: &str, calls: &str, expected: &str) -> String {
-    format!("{name} : {test} ({calls}) ({expected}) ≡ true\nunfolding {test}\n{name} = refl\n\n")
+pub fn theorem(name: &str, test: &str, arguments: &str, expected: &str) -> String {
+    format!("{name} : {test} ({arguments}) ({expected}) ≡ true\nunfolding {test}\n{name} = refl\n\n")
 }
 
 /// One number for a list of words.
-fn digest(words: &[u64]) -> u64 {
+pub fn digest(words: &[u64]) -> u64 {
     const PRIME: u128 = (1 << 61) - 1;
     words.iter().fold(0, |digest, word| ((u128::from(digest) * 1_000_003 + u128::from(*word) + 1) % PRIME) as u64)
 }
@@ -101,7 +108,9 @@ fn decision_values(decision: &Decision) -> Vec<u64> {
         Decision::None => vec![0],
         Decision::Blame { owner, reason: BlameReason::Staller } => vec![1, (*owner).into()],
         Decision::Blame { owner, reason: BlameReason::PendingTimeout } => vec![2, (*owner).into()],
-        Decision::EvictStaged { height, hash, suppressed_for } => [&[3, (*height).into(), *suppressed_for][..], &hash_words(hash)].concat(),
+        Decision::EvictStaged { height, hash, suppressed_for } => {
+            [&[3, (*height).into(), *suppressed_for][..], &hash_words(hash)].concat()
+        }
         Decision::HedgeColdFront { owner, front_hash } => [&[4, (*owner).into()][..], &hash_words(front_hash)].concat(),
     }
 }

@@ -1,5 +1,11 @@
 //! docs/LAYOUT.md, written down once more, independently of the Rattle definitions: a state as 4,096 words.
 
+mod reader;
+mod window;
+
+pub use reader::decode;
+pub use window::{is_window, settings_in_range};
+
 use calls::{ColdFront, Entry, Hash, State};
 
 pub const WORDS: usize = 4096;
