@@ -36,7 +36,7 @@ use Rattle.laws.specs.Bag.{Pick}
 use Rattle.laws.specs.Entries.{with-hash, rising-one, remove-pick, Finding, missing, at, found-is, Picks, done, more, picks-append, sift}
 use Rattle.laws.specs.Sound.{Bounded, SoundSource, SoundCold, SoundProbe, SoundObservation, Sound}
 use Rattle.laws.specs.Parts.{bounded-keep, sound-frontier, sound-queue, sound-cold, sound-preferred, sound-attempted, sound-probe, sound-no-probe, sound-observation}
-use Rattle.laws.specs.Queues.{resets-pending, queue-outs, outs-lower, queue-keeps, keeps-lower}
+use Rattle.laws.specs.Queues.{resets-pending, after-outs, queue-outs, outs-lower, queue-keeps, keeps-lower}
 
 -- a step from w that may let go
 pub record Lets (c : ℕ) (w : Window) (s : Step) : Type 0 where
@@ -72,7 +72,7 @@ unfolding lowered
 lowered-le r h f = elim (both (lowers r)) [ inl q ↦ rw q (lesser-le-first f h) | inr q ↦ rw q (omega arith) ]
 
 without-is : (c r : ℕ) (e : Entry) (q : Queue) (m : List Entry) → remove (e .hash) (q .pending) ≡ m
-    → reset-owner-queue-start (e .owner) (e .time) c (without e q) ≡ resets c (release e r ∷ []) (queue (total-after (release e r ∷ []) (q .total)) m (q .starts) (q .bodies))
+    → reset-owner-queue-start (e .owner) (e .time) c (without e q) ≡ after-outs c (release e r ∷ []) m q
 unfolding without resets total-after
 without-is c r e q m z = rw z
 
