@@ -1,7 +1,7 @@
 -- 01, "Demand 3's book": fed the calls' arguments alone. The model's definitions, run on these over a window of the book's own, say what is refused,
 -- an opened entry's values, and what goes, in which order, at which place and why; the lent words are not read. Definitions only.
-use mathlib.Core.Bool.{Bool, true, false, cond}
-use mathlib.Core.List.{List, [], _∷_, _++_}
+use mathlib.Core.Bool.{cond}
+use mathlib.Core.List.{List, [], _∷_}
 use Prim.Native.Nat.{ℕ, zero, suc}
 use lib.ListN.{length, replicate}
 use Rattle.model.specs.Hash.{same}
@@ -9,7 +9,7 @@ use Rattle.model.specs.Window.{Window}
 use Rattle.model.specs.Records.{new-entry}
 use Rattle.model.specs.Calls.{Ask, asks-in, Fetching, held, staged, asked, no-capacity, owned-fetch, opened}
 use Rattle.model.specs.Refusals.{Change, Call, opens, changes, queries, checks, query-checks, refusal-at, opening-refusal, requests, fetches, receives, credits, credits-duplicate, rejects, expires, requeues, releases, retires, retains, marks-unresponsive, confirms-probe, confirms-hedge, observes, sets-fanout, clears-preferred}
-use Rattle.model.specs.Perform.{Deed, moment-of, changed, does}
+use Rattle.model.specs.Perform.{moment-of, changed, does}
 use Rattle.model.specs.declared.Hash.{Hash}
 use Rattle.model.specs.declared.Entry.{Entry}
 use Rattle.model.specs.declared.Release.{Release}

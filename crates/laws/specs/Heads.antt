@@ -1,18 +1,17 @@
 -- The head, group by group: what a window's words say is what the window has, and words that pass the test are the words of what they say.
 -- Assumes nothing.
 use mathlib.Core.Path.{_≡_, refl, sym, ap, _∙_}
-use mathlib.Core.Logic.{_⊎_, inl, inr}
-use mathlib.Core.Bool.{Bool, true, false, cond, _&&_, false≢true}
+use mathlib.Core.Bool.{Bool, true, false}
 use mathlib.Core.List.{List, [], _∷_, _++_}
 use Prim.Native.Nat.{ℕ, zero, suc, _+_, _-_, _*_, _≤_, _<_}
 use native.Mathlib.Omega.{arith}
-use lib.ListN.{length, getD, take, drop, replicate, length-append, length-take, length-drop, length-replicate, take-append-drop}
+use lib.ListN.{length, getD, take, drop, replicate, length-append, length-drop, length-replicate, take-append-drop}
 use lib.Seq.{take-at, drop-at, drop-drop, drop-cons, take-add, getD-take, getD-drop, length-take-le}
-use lib.Dec.{eqb, leb, ltb}
-use borrow.Author.Tests.{eqb-true, eq-eqb}
+use lib.Dec.{eqb}
+use borrow.Author.Tests.{eqb-true}
 use Rattle.model.specs.Lists.{pad, all}
 use Rattle.model.specs.Hash.{hash, hash-words, hashes-in, hashes-words}
-use Rattle.model.specs.Layout.{Table, word, words-at, hash-at, is-0, zeros, source-word, source-of, flag-word, stall-words, stall-of, stuck-words, stuck-of, cold-words, cold-of, observation-words, observation-of, probe-words, probe-of}
+use Rattle.model.specs.Layout.{Table, word, words-at, hash-at, is-0, source-word, source-of, flag-word, stall-words, stall-of, stuck-words, stuck-of, cold-words, cold-of, observation-words, observation-of, probe-words, probe-of}
 use Rattle.model.specs.declared.Hash.{Hash}
 use Rattle.model.specs.declared.Source.{Source}
 use Rattle.model.specs.declared.Source.the-variants.{Missing, From}
@@ -26,7 +25,6 @@ use Rattle.model.specs.declared.Probe.{Probe}
 use Rattle.model.specs.declared.Probe.the-variants.{NoProbe, Probing}
 use Rattle.model.specs.declared.Observation.{Observation}
 use Rattle.model.specs.declared.Observation.the-variants.{Unarmed, Armed, Swept}
-use Rattle.laws.specs.Numbers.{both}
 use Rattle.laws.specs.Every.{and-so, all-first, all-rest}
 
 -- ---- parts of a list

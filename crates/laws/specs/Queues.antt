@@ -1,25 +1,24 @@
 -- The queue stays sound: entries go with their owners' starts reset, seats go whole, a request's entries come in. Assumes nothing.
 use mathlib.Core.Path.{_≡_, refl, sym, ap, _∙_}
-use mathlib.Core.Logic.{_⊎_, inl, inr}
-use mathlib.Core.Bool.{Bool, true, false, cond, not, _&&_}
+use mathlib.Core.Logic.{inl, inr}
+use mathlib.Core.Bool.{Bool, true, false, cond}
 use mathlib.Core.List.{List, [], _∷_}
 use Prim.Native.Nat.{ℕ, zero, suc, _+_, _-_, _≤_, _<_}
 use native.Mathlib.Nat.{zero-add}
 use native.Mathlib.Omega.{arith}
-use lib.ListN.{length, getD, set, length-set}
+use lib.ListN.{length, getD, length-set}
 use lib.Seq.{getD-set-same, getD-set-other}
-use lib.Dec.{eqb, ltb, leb}
-use borrow.Author.Tests.{eqb-true, eqb-false, ltb-true, ltb-false, lt-ltb, le-ltb, eq-eqb, ne-eqb}
-use Rattle.model.specs.Numbers.{greater, max-pending}
-use Rattle.model.specs.Records.{sum, insert}
-use Rattle.model.specs.Seats.{sooner, oldest, start-reset, body-reset, reset-owner-queue-start, keep-seats}
-use Rattle.model.specs.Window.{Window, Queue, HighWater, queue}
-use Rattle.model.specs.LettingGo.{without, total-after, resets, gone, kept, if-kept, lost-reason}
+use lib.Dec.{eqb, ltb}
+use borrow.Author.Tests.{eqb-true, eqb-false, ltb-false, le-ltb}
+use Rattle.model.specs.Records.{sum}
+use Rattle.model.specs.Seats.{oldest, start-reset, body-reset, reset-owner-queue-start, keep-seats}
+use Rattle.model.specs.Window.{Queue, HighWater, queue}
+use Rattle.model.specs.LettingGo.{total-after, resets, gone, kept, lost-reason}
 use Rattle.model.specs.declared.Entry.{Entry}
 use Rattle.model.specs.declared.Release.{Release}
-use Rattle.laws.specs.Numbers.{both, first-le-greater, second-le-greater, greater-le}
-use Rattle.laws.specs.Bag.{weigh, one, weigh-one, Pick, here, there, pick-weigh}
-use Rattle.laws.specs.Entries.{with-hash, estimate-of, sum-weigh, by-entry, Picks, done, more, picks-weigh, picks-rising, sift, Each, each-picks, owned, early, oldest-none, oldest-first, first-oldest, sooner-le, sooner-ge, with-time}
+use Rattle.laws.specs.Numbers.{both, second-le-greater, greater-le}
+use Rattle.laws.specs.Bag.{weigh, one, weigh-one}
+use Rattle.laws.specs.Entries.{estimate-of, sum-weigh, by-entry, Picks, picks-weigh, picks-rising, sift, Each, each-picks, owned, early, oldest-none, oldest-first, first-oldest, sooner-le, with-time}
 use Rattle.laws.specs.Sound.{Bounded, InRange, Seat, SoundQueue, NoLower}
 use Rattle.laws.specs.Parts.{bounded-set, bounded-keep, getD-keep, length-keep}
 
