@@ -58,9 +58,13 @@ cut k n m l e = sym (take-append-drop n (drop k l)) ∙ ap (λ (r : List ℕ). t
 
 -- ---- zeros
 
-pub zeros-are : (l : List ℕ) → all is-0 l ≡ true → l ≡ replicate (length l) 0
+zeros-are : (l : List ℕ) → all is-0 l ≡ true → l ≡ replicate (length l) 0
 zeros-are [] e = refl
 zeros-are (x ∷ l) e = λ i. eqb-true x 0 (all-first is-0 x l e) i ∷ zeros-are l (all-rest is-0 x l e) i
+
+-- n numbers that are all 0
+pub nought : (l : List ℕ) (n : ℕ) → length l ≡ n → all is-0 l ≡ true → replicate n 0 ≡ l
+nought l n k z = ap (λ (m : ℕ). replicate m 0) (sym k) ∙ sym (zeros-are l z)
 
 pub all-zeros : (n : ℕ) → all is-0 (replicate n 0) ≡ true
 unfolding all
@@ -116,7 +120,7 @@ padded-back m n l k h z =
     let p = hashes-first n l (omega arith) .0 in
     let rest : length (drop (4 * n) l) ≡ m - 4 * n = length-drop (4 * n) l ∙ omega arith in
     rw (p, length-take-le (4 * n) l (omega arith))
-    (ap (λ (r : List ℕ). take (4 * n) l ++ r) (ap (λ (j : ℕ). replicate j 0) (sym rest) ∙ sym (zeros-are (drop (4 * n) l) z)) ∙ take-append-drop (4 * n) l)
+    (ap (λ (r : List ℕ). take (4 * n) l ++ r) (nought (drop (4 * n) l) (m - 4 * n) rest z) ∙ take-append-drop (4 * n) l)
 
 -- 0 after the hashes
 pub padded-zero : (m : ℕ) (hs : List Hash) → all is-0 (drop (4 * length hs) (pad m 0 (hashes-words hs))) ≡ true
@@ -206,10 +210,6 @@ module _ (t : Table) where
       λ i. probe-of (at 0 (omega arith) i) (at 1 (omega arith) i) (at 3 (omega arith) i)
 
 -- ---- the words of what a group says
-
--- numbers that are all 0
-nought : (l : List ℕ) (n : ℕ) → length l ≡ n → all is-0 l ≡ true → replicate n 0 ≡ l
-nought l n k z = ap (λ (m : ℕ). replicate m 0) (sym k) ∙ sym (zeros-are l z)
 
 pub stall-said : (a b c d e f : ℕ) → (a ≡ 0 → all is-0 (a ∷ b ∷ c ∷ d ∷ e ∷ f ∷ []) ≡ true) → stall-words (stall-of a b (hash c d e f)) ≡ a ∷ b ∷ c ∷ d ∷ e ∷ f ∷ []
 stall-said zero b c d e f z = nought _ 6 refl (z refl)

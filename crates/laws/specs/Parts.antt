@@ -149,11 +149,25 @@ module _ {c : ℕ} {w : Window} (g : Sound c w) where
   pub sound-frontier : (f : ℕ) → f ≤ max-height → Sound c (with-frontier f w)
   sound-frontier f b = record { clock = g .clock; settings = g .settings; keys = g .keys; mean-least = g .mean-least; mean-most = g .mean-most; frontier = b; high = g .high; queue = g .queue; cooling = g .cooling; pace = g .pace; races = g .races; watch = g .watch }
 
-  pub sound-high : (h : HighWater) → NoLower h (w .queue) → Sound c (with-high h w)
-  sound-high h b = record { clock = g .clock; settings = g .settings; keys = g .keys; mean-least = g .mean-least; mean-most = g .mean-most; frontier = g .frontier; high = b; queue = g .queue; cooling = g .cooling; pace = g .pace; races = g .races; watch = g .watch }
+  -- both together, as a request raises the high waters with the queue
+  pub sound-filled : (q : Queue) (h : HighWater) → SoundQueue c q → NoLower h q → Sound c (with-high h (with-queue q w))
+  sound-filled q h k b = record {
+    clock = g .clock;
+    settings = g .settings;
+    keys = g .keys;
+    mean-least = g .mean-least;
+    mean-most = g .mean-most;
+    frontier = g .frontier;
+    high = b;
+    queue = k;
+    cooling = g .cooling;
+    pace = g .pace;
+    races = g .races;
+    watch = g .watch;
+  }
 
   pub sound-queue : (q : Queue) → SoundQueue c q → NoLower (w .high) q → Sound c (with-queue q w)
-  sound-queue q k b = record { clock = g .clock; settings = g .settings; keys = g .keys; mean-least = g .mean-least; mean-most = g .mean-most; frontier = g .frontier; high = b; queue = k; cooling = g .cooling; pace = g .pace; races = g .races; watch = g .watch }
+  sound-queue q k b = sound-filled q (w .high) k b
 
   pub sound-cooling : (l : List ℕ) → Bounded (suc c) l → Sound c (with-cooling l w)
   sound-cooling l k = record { clock = g .clock; settings = g .settings; keys = g .keys; mean-least = g .mean-least; mean-most = g .mean-most; frontier = g .frontier; high = g .high; queue = g .queue; cooling = k; pace = g .pace; races = g .races; watch = g .watch }
@@ -196,20 +210,3 @@ module _ {c : ℕ} {w : Window} (g : Sound c w) where
 
   pub sound-observation : (x : Observation) → SoundObservation x → Sound c (with-observation x w)
   sound-observation x k = let r = g .watch in sound-watch _ (record { stall = r .stall; stuck = r .stuck; observation = k })
-
-  -- both together, as a request raises the high waters with the queue
-  pub sound-filled : (q : Queue) (h : HighWater) → SoundQueue c q → NoLower h q → Sound c (with-high h (with-queue q w))
-  sound-filled q h k b = record {
-    clock = g .clock;
-    settings = g .settings;
-    keys = g .keys;
-    mean-least = g .mean-least;
-    mean-most = g .mean-most;
-    frontier = g .frontier;
-    high = b;
-    queue = k;
-    cooling = g .cooling;
-    pace = g .pace;
-    races = g .races;
-    watch = g .watch;
-  }

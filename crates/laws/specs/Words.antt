@@ -32,7 +32,7 @@ use Rattle.model.specs.declared.Observation.the-variants.{Unarmed, Armed, Swept
 use Rattle.laws.specs.Every.{hold, and-so}
 use Rattle.laws.specs.Tables.{Sized, sized-decode, flat-decode, length-flat, decode-flat}
 use Rattle.laws.specs.Sound.{SoundSource, SoundProbe, Sound}
-use Rattle.laws.specs.Heads.{seg, front-is, listed, listed-is, cut, zeros-are, all-zeros, hashes-said, length-padded, count-said, padded-back, padded-zero, word-is, source-back, source-said, flag-back, flag-said, stall-back, stuck-back, cold-back, observation-back, probe-back, stall-said, stuck-said, cold-said, observation-said, probe-said}
+use Rattle.laws.specs.Heads.{seg, front-is, listed, listed-is, cut, nought, all-zeros, hashes-said, length-padded, count-said, padded-back, padded-zero, word-is, source-back, source-said, flag-back, flag-said, stall-back, stuck-back, cold-back, observation-back, probe-back, stall-said, stuck-said, cold-said, observation-said, probe-said}
 use Rattle.laws.specs.Valid.{bounded-all, all-bounded, each-all, all-each, rising-is, is-rising, blanks-are, all-blanks, starts-all, starts-each, stall-valid, stuck-valid, cold-valid, observation-valid, probe-valid, StallFacts, stall-facts, StuckFacts, stuck-facts, ColdFacts, cold-facts, ObservationFacts, observation-facts, ProbeFacts, probe-facts}
 
 -- ---- the groups of a window's head
@@ -392,7 +392,7 @@ module _ (t : Table) (z : Sized t) where
     rest-group =
         let n : length (drop 97 (t .head)) ≡ 415 = rw length-drop (omega (arith, z .head)) in
         let all-0 : all is-0 (drop 97 (t .head)) ≡ true = ap (all is-0) (sym (take-all 415 (drop 97 (t .head)) (omega (arith, n)))) ∙ v .rest in
-        ap (λ (m : ℕ). replicate m 0) (sym n) ∙ sym (zeros-are (drop 97 (t .head)) all-0)
+        nought (drop 97 (t .head)) 415 n all-0
 
     -- the groups from 27 on
     tail-groups : stall-words (stall-of (word 27 t) (word 28 t) (hash-at 29 t)) ++ (stuck-words (stuck-of (word 33 t) (word 34 t) (hash-at 35 t))
@@ -430,7 +430,7 @@ module _ (t : Table) (z : Sized t) where
         let rest : length (drop n es) ≡ 256 - length (take n es) = length-drop n es ∙ omega (arith, z .entries, many) in
         let after : replicate (256 - length (take n es)) blank ≡ drop n es = ap (λ (m : ℕ). replicate m blank) (sym rest) ∙ sym (blanks-are (drop n es) (v .clear)) in
         let whole : take n es ++ replicate (256 - length (take n es)) blank ≡ es = ap (λ (l : List Entry). take n es ++ l) after ∙ take-append-drop n es in
-        let spare : replicate 256 0 ≡ t .spare = ap (λ (m : ℕ). replicate m 0) (sym (z .spare)) ∙ sym (zeros-are (t .spare) (v .spare)) in
+        let spare : replicate 256 0 ≡ t .spare = nought (t .spare) 256 (z .spare) (v .spare) in
         λ i. record { entries = whole i; spare = spare i; starts = t .starts; bodies = t .bodies; keys = t .keys; cooling = t .cooling; racers = t .racers; head = head-read i }
 
     source-in : (n : ℕ) → n ≤ suc max-seat → SoundSource (source-of n)
