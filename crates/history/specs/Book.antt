@@ -121,7 +121,8 @@ pub record Book : Type 0 where
   pub next : ℕ
   pub lines : List Line
 
--- what is refused, by the definitions: of a change and a query on the book's own window, of an opening on any 4,096 words
+-- what is refused, by the definitions: of a change and a query on the book's own window, of an opening on any 4,096 words. `room` is the length of
+-- the lent report; what stands in it is not read
 abbrev pub own-refusal : Call → Window → ℕ → ℕ
 own-refusal (opens c b keys) w room = opening-refusal c b keys (replicate 4096 0)
 own-refusal (changes x) w room = refusal-at (checks x) w room
