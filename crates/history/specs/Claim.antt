@@ -25,11 +25,11 @@ use Rattle.laws.specs.Numbers.{both}
 use Rattle.laws.specs.Bag.{weigh, one}
 use Rattle.laws.specs.Entries.{on, estimate-of, sum-weigh, owned, oldest-none, rising-one}
 use Rattle.laws.specs.Words.{sound-words}
-use Rattle.history.specs.Run.{Act, Done, Run, run-step, run, on-words}
+use Rattle.history.specs.Run.{Act, Done, Run, run-step, run, on-words, AllFit}
 use Rattle.history.specs.Book.{Mark, opened-lines, pending-lines, gone-lines, marks, Book, book, new-book}
 use Rattle.history.specs.Reports.{places-at, names, AsLent}
 use Rattle.history.specs.Lines.{lines-split}
-use Rattle.history.specs.Steps.{Sync, AllAsLent, AllFit, runs, starts, log-of, outcome-by, performs}
+use Rattle.history.specs.Steps.{Sync, AllAsLent, runs, starts, log-of, outcome-by, performs}
 use Rattle.history.specs.Perms.{same-perm, Entry-discrete}
 use Rattle.history.specs.Places.{names-place, log-once, log-true, same-mem}
 

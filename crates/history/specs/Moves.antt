@@ -24,8 +24,9 @@ use Rattle.laws.specs.Sound.{Sound}
 use Rattle.laws.specs.Lets.{Lets, Steady, requeue-lets, release-lets, retire-lets, expire-lets, retain-owned-lets}
 use Rattle.laws.specs.RacesKept.{unresponsive-steady, confirm-steady, hedge-steady}
 use Rattle.laws.specs.CallsKept.{duplicate-steady, credit-lets, received-lets, reject-lets, fanout-steady, preferred-steady}
+use Rattle.laws.specs.Fits.{FitsChange}
 use Rattle.laws.specs.LooksKept.{observe-steady}
-use Rattle.laws.specs.Kept.{FitsChange, Accepted, body-le, seat-le, change-sound}
+use Rattle.laws.specs.Kept.{Accepted, body-le, seat-le, change-sound}
 use Rattle.history.specs.Book.{entries-of, fetch-opens, opens-entries}
 
 -- from the entries l to n: es come in, and gs are picked out

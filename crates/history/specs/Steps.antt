@@ -15,9 +15,10 @@ use Rattle.model.specs.declared.Release.{Release}
 use Rattle.model.specs.declared.Settings.{Settings}
 use Rattle.laws.specs.Bag.{weigh}
 use Rattle.laws.specs.Sound.{Sound}
-use Rattle.laws.specs.Kept.{Fits, FitsChange, accepted-is, sound-then, changed-sound, opens-sound}
+use Rattle.laws.specs.Fits.{Fits, FitsChange}
+use Rattle.laws.specs.Kept.{accepted-is, sound-then, changed-sound, opens-sound}
 use Rattle.laws.specs.Words.{sound-words}
-use Rattle.history.specs.Run.{Act, Done, Run, run-step, run, on-words}
+use Rattle.history.specs.Run.{Act, Done, Run, run-step, run, on-words, AllFit}
 use Rattle.history.specs.Book.{Line, Mark, pending-lines, marks, opens-entries, writes, own-by, Book, own-refusal, book-step, book, new-book}
 use Rattle.history.specs.Reports.{Told, anew, counts, tells-by, tells, AsLent}
 use Rattle.history.specs.Lines.{Agree, told, agree-outs, agree-adds}
@@ -154,10 +155,6 @@ goes-by zero i (queries y) lent w ls log f q v =
 goes-by zero i (changes x) lent w ls log f q v = change-goes x lent w i ls log f q v
 
 -- ---- every list of calls
-
-abbrev pub AllFit : List Act → Type 0
-AllFit [] = Unit {0}
-AllFit (a ∷ rest) = Fits (a .call) × AllFit rest
 
 sync-step : (a : Act) (b : Book) (s : Run) → Fits (a .call) → Sync b s → Sync (book-step a b) (run-step a s)
 unfolding book-step run-step log-of tells

@@ -36,6 +36,7 @@ use Rattle.model.specs.declared.ColdFront.the-variants.{Idle, Waiting, Racing}
 use Rattle.model.specs.declared.Observation.{Observation}
 use Rattle.model.specs.declared.Observation.the-variants.{Unarmed, Armed, Swept}
 use Rattle.laws.specs.Numbers.{both}
+use Rattle.laws.specs.Fits.{LowHeight}
 use Rattle.laws.specs.Entries.{Each}
 use Rattle.laws.specs.Sound.{InRange, SoundCold, SoundStall, SoundStuck, SoundObservation, Sound}
 use Rattle.laws.specs.Parts.{sound-cold, sound-pace, sound-stall, sound-stuck, sound-observation}
@@ -48,11 +49,6 @@ use Rattle.laws.specs.RacesKept.{unresponsive-steady}
 abbrev FrontIn : ℕ → Front → Type 0
 FrontIn c Nothing = Unit {0}
 FrontIn c (At e) = InRange c e
-
--- a next height has 32 bits
-abbrev pub LowHeight : Height → Type 0
-LowHeight Unknown = Unit {0}
-LowHeight (Known n) = n ≤ max-height
 
 module _ (c : ℕ) where
   lower-in : (e : Entry) (f : Front) → InRange c e → FrontIn c f → FrontIn c (lower e f)
