@@ -1,7 +1,7 @@
 -- 01, "Demand 3's book": fed the calls' arguments alone. The model's definitions, run on these over a window of the book's own, say what is refused,
 -- an opened entry's values, and what goes, in which order, at which place and why; the lent words are not read. Definitions only.
-use mathlib.Core.Bool.{Bool, true, false, cond}
-use mathlib.Core.List.{List, [], _∷_, _++_}
+use mathlib.Core.Bool.{cond}
+use mathlib.Core.List.{List, [], _∷_}
 use Prim.Native.Nat.{ℕ, zero, suc}
 use lib.ListN.{length, replicate}
 use Rattle.model.specs.Hash.{same}
@@ -9,7 +9,7 @@ use Rattle.model.specs.Window.{Window}
 use Rattle.model.specs.Records.{new-entry}
 use Rattle.model.specs.Calls.{Ask, asks-in, Fetching, held, staged, asked, no-capacity, owned-fetch, opened}
 use Rattle.model.specs.Refusals.{Change, Call, opens, changes, queries, checks, query-checks, refusal-at, opening-refusal, requests, fetches, receives, credits, credits-duplicate, rejects, expires, requeues, releases, retires, retains, marks-unresponsive, confirms-probe, confirms-hedge, observes, sets-fanout, clears-preferred}
-use Rattle.model.specs.Perform.{Deed, moment-of, changed, does}
+use Rattle.model.specs.Perform.{moment-of, changed, does}
 use Rattle.model.specs.declared.Hash.{Hash}
 use Rattle.model.specs.declared.Entry.{Entry}
 use Rattle.model.specs.declared.Release.{Release}
@@ -121,7 +121,8 @@ pub record Book : Type 0 where
   pub next : ℕ
   pub lines : List Line
 
--- what is refused, by the definitions: of a change and a query on the book's own window, of an opening on any 4,096 words
+-- what is refused, by the definitions: of a change and a query on the book's own window, of an opening on any 4,096 words. `room` is the length of
+-- the lent report; what stands in it is not read
 abbrev pub own-refusal : Call → Window → ℕ → ℕ
 own-refusal (opens c b keys) w room = opening-refusal c b keys (replicate 4096 0)
 own-refusal (changes x) w room = refusal-at (checks x) w room

@@ -1,13 +1,13 @@
 -- DEMAND 3, over every list of calls: `Claim`, in plain words, and `the-book-adds-up`, its proof from the invariant. Assumes nothing.
 use mathlib.Core.Path.{_≡_, refl, sym, ap, _∙_, subst}
-use mathlib.Core.Logic.{_⊎_, inl, inr, _↔_}
-use mathlib.Core.Bool.{Bool, true, false, cond, _&&_}
+use mathlib.Core.Logic.{inl, inr, _↔_}
+use mathlib.Core.Bool.{Bool, true, cond}
 use mathlib.Core.Option.{some}
 use mathlib.Core.List.{List, [], _∷_, List·Memᴰ, List·Memᴰ·head, List·Memᴰ·tail, List·Permᴰ}
 use Prim.Native.Nat.{ℕ, zero, suc, _+_, _≤_, _<_}
 use native.Mathlib.Omega.{arith}
 use lib.Dec.{eqb}
-use lib.ListN.{length, getD, getElem?, drop}
+use lib.ListN.{length, getD, getElem?}
 use Rattle.model.specs.Lists.{count}
 use Rattle.model.specs.Hash.{key, same}
 use Rattle.model.specs.Window.{Window}
@@ -15,21 +15,21 @@ use Rattle.model.specs.Records.{sum, owned-by, pending-count-for}
 use Rattle.model.specs.Seats.{oldest}
 use Rattle.model.specs.Reasons.{release}
 use Rattle.model.specs.Layout.{encode, window-of, is-window}
-use Rattle.model.specs.Refusals.{Call, opens, changes, queries, refusal}
-use Rattle.model.specs.Perform.{Answer, refused, says, Outcome, perform}
+use Rattle.model.specs.Refusals.{Call, opens, refusal}
+use Rattle.model.specs.Perform.{refused, Outcome, perform}
 use Rattle.model.specs.declared.Hash.{Hash}
 use Rattle.model.specs.declared.Entry.{Entry}
 use Rattle.model.specs.declared.Release.{Release}
 use Rattle.model.specs.declared.Settings.{Settings}
 use Rattle.laws.specs.Numbers.{both}
-use Rattle.laws.specs.Bag.{weigh, one, Same}
+use Rattle.laws.specs.Bag.{weigh, one}
 use Rattle.laws.specs.Entries.{on, estimate-of, sum-weigh, owned, oldest-none, rising-one}
 use Rattle.laws.specs.Words.{sound-words}
-use Rattle.history.specs.Run.{Act, Done, Run, run-step, run, on-words}
-use Rattle.history.specs.Book.{Line, Mark, opened-lines, pending-lines, gone-lines, marks, Book, book, new-book}
+use Rattle.history.specs.Run.{Act, Done, Run, run-step, run, on-words, AllFit}
+use Rattle.history.specs.Book.{Mark, opened-lines, pending-lines, gone-lines, marks, Book, book, new-book}
 use Rattle.history.specs.Reports.{places-at, names, AsLent}
 use Rattle.history.specs.Lines.{lines-split}
-use Rattle.history.specs.Steps.{Inv, Sync, AllAsLent, AllFit, runs, starts, log-of, outcome-by, performs}
+use Rattle.history.specs.Steps.{Sync, AllAsLent, runs, starts, log-of, outcome-by, performs}
 use Rattle.history.specs.Perms.{same-perm, Entry-discrete}
 use Rattle.history.specs.Places.{names-place, log-once, log-true, same-mem}
 

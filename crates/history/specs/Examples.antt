@@ -2,8 +2,8 @@
 -- lent words come to, and the book. `after` and `written` open on their own `unfolding` lines all that a run uses, so that a check names just them.
 use mathlib.Core.Path.{_≡_, refl, ap, _∙_}
 use mathlib.Core.List.{List, [], _∷_, map}
-use Prim.Native.Nat.{ℕ, zero, suc}
-use lib.ListN.{length, getD, replicate}
+use Prim.Native.Nat.{ℕ}
+use lib.ListN.{getD, replicate}
 use lib.Count.{ones}
 use native.Mathlib.Omega.{arith}
 use Rattle.model.specs.Calls.{opened, asks-in, put, puts, raised, started, noted, mark-requested, credit-duplicate-delivery, record-delivery-progress, body-noted, credit-delivery-from, next-mean, mark-received-from}
@@ -15,22 +15,21 @@ use Rattle.model.specs.LettingGo.{without, remove-pending, gone, kept, total-af
 use Rattle.model.specs.Lists.{all, any, select, count, every}
 use Rattle.model.specs.Numbers.{lesser, greater, clock-ok, read-clock, next-height, present, age}
 use Rattle.model.specs.Pace.{sample-ms, nearer, front-mean-by, decay-floor, decayed, front-recorded, was-front, pace-opened}
-use Rattle.model.specs.Perform.{Answer, refused, says, Outcome, requested, changed}
+use Rattle.model.specs.Perform.{requested, changed}
 use Rattle.model.specs.Races.{plan-limit, insert-by-height, by-height, walk, expected-after, plan-from, prefix-probe-plan, entered, probe-started, confirm-prefix-probe, place-of, all-four, winner, race-won, race-progress, record-prefix-probe-delivery, resolve-cold-front-delivery}
 use Rattle.model.specs.Reasons.{lowers, lowered}
 use Rattle.model.specs.Records.{new-entry, insert, remove, found, lowest, sum, pending-count-for}
 use Rattle.model.specs.Refusals.{Call, opens, changes, requests, receives, expires, confirms-probe, refusal, keys-ok, alternates-ok, listed-once, list-ok, request-refusal, body-refusal, report-ok, refusal-at, opening-refusal}
 use Rattle.model.specs.Seats.{oldest, reset-owner-queue-start, active-downloading-peers, keep-seats}
 use Rattle.model.specs.Time.{owner-timeout, expired, effective-owner-timeout, active}
-use Rattle.model.specs.Window.{Window, Queue}
+use Rattle.model.specs.Window.{Window}
 use Rattle.model.specs.declared.Hash.{Hash}
-use Rattle.model.specs.declared.Entry.{Entry}
 use Rattle.model.specs.declared.Release.{Release}
 use Rattle.model.specs.declared.Settings.{Settings}
-use Rattle.model.specs.declared.Source.the-variants.{Missing, From}
-use Rattle.history.specs.Run.{Act, Run, run, run-step, on-words}
+use Rattle.model.specs.declared.Source.the-variants.{From}
+use Rattle.history.specs.Run.{Act, Run, run, on-words}
 use Rattle.history.specs.Claim.{Claim, the-book-adds-up}
-use Rattle.history.specs.Book.{Book, Line, Mark, opened-lines, pending-lines, gone-lines, marks, mark, mark-all, add-lines, entries-of, own-refusal, book-step, book, new-book}
+use Rattle.history.specs.Book.{Book, opened-lines, pending-lines, gone-lines, marks, mark, mark-all, add-lines, entries-of, book-step, book, new-book}
 
 written : List Act → Book → Book
 unfolding ones book book-step mark mark-all add-lines entries-of opened asks-in put puts raised started noted mark-requested credit-duplicate-delivery record-delivery-progress body-noted credit-delivery-from next-mean mark-received-from peer-inflight effective-peer-inflight capacity-left has-request-capacity cools cooling-noted key-of mark-peer-unresponsive wide key same less same-hashes hashes-in settings-ok without remove-pending gone kept total-after frontier-after extract skipped sweep-reason is-entry resets expire-pending lost-reason seats-kept retain-peer-assignments all any select count every lesser greater clock-ok read-clock next-height present age sample-ms nearer front-mean-by decay-floor decayed front-recorded was-front pace-opened requested changed plan-limit insert-by-height by-height walk expected-after plan-from prefix-probe-plan entered probe-started confirm-prefix-probe place-of all-four winner race-won race-progress record-prefix-probe-delivery resolve-cold-front-delivery lowers lowered new-entry insert remove found lowest sum pending-count-for keys-ok alternates-ok listed-once list-ok request-refusal body-refusal report-ok refusal-at opening-refusal oldest reset-owner-queue-start active-downloading-peers keep-seats owner-timeout expired effective-owner-timeout active

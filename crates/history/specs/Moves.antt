@@ -1,34 +1,32 @@
 -- What each accepted change does to the pending entries: it opens what the book writes, and then picks out what it reports. Assumes nothing.
-use mathlib.Core.Path.{_≡_, refl, sym, ap, _∙_}
-use mathlib.Core.Logic.{_⊎_, inl, inr}
-use mathlib.Core.Bool.{Bool, true, false, cond, not, _&&_}
-use mathlib.Core.List.{List, [], _∷_, _++_}
-use Prim.Native.Nat.{ℕ, zero, suc, _+_, _-_, _≤_, _<_}
+use mathlib.Core.Path.{_≡_, refl}
+use mathlib.Core.Logic.{inl, inr}
+use mathlib.Core.Bool.{true, cond, not, _&&_}
+use mathlib.Core.List.{List, [], _∷_}
+use Prim.Native.Nat.{ℕ, _+_, _-_, _≤_}
 use native.Mathlib.Omega.{arith}
 use lib.ListN.{length}
-use lib.Dec.{leb}
 use borrow.Author.Tests.{leb-true}
-use Rattle.model.specs.Numbers.{max-body}
-use Rattle.model.specs.Records.{new-entry, insert}
-use Rattle.model.specs.Window.{Window, Queue, Step, with-attempted}
+use Rattle.model.specs.Records.{new-entry}
+use Rattle.model.specs.Window.{Window, Queue, Step}
 use Rattle.model.specs.Races.{is-empty}
 use Rattle.model.specs.Calls.{Ask, asks-in, put, puts, started, noted, mark-requested, Fetching, held, staged, asked, no-capacity, owned-fetch, fetched, mark-owned-fetch}
 use Rattle.model.specs.Refusals.{Change, checks, report-ok, requests, fetches, receives, credits, credits-duplicate, rejects, expires, requeues, releases, retires, retains, marks-unresponsive, confirms-probe, confirms-hedge, observes, sets-fanout, clears-preferred}
-use Rattle.model.specs.Perform.{Deed, change, moment-of, changed, requested, observed}
+use Rattle.model.specs.Perform.{change, requested, observed}
 use Rattle.model.specs.declared.Hash.{Hash}
 use Rattle.model.specs.declared.Entry.{Entry}
 use Rattle.model.specs.declared.Release.{Release}
-use Rattle.model.specs.declared.Source.the-variants.{Missing, From}
 use Rattle.laws.specs.Numbers.{both}
 use Rattle.laws.specs.Every.{hold}
-use Rattle.laws.specs.Bag.{weigh, one, weigh-one, Same, Pick, pick-weigh}
-use Rattle.laws.specs.Entries.{Rising, insert-pick, by-entry, Picks, done, more, picks-weigh}
+use Rattle.laws.specs.Bag.{weigh, one, weigh-one, pick-weigh}
+use Rattle.laws.specs.Entries.{Rising, insert-pick, Picks, done, picks-weigh}
 use Rattle.laws.specs.Sound.{Sound}
 use Rattle.laws.specs.Lets.{Lets, Steady, requeue-lets, release-lets, retire-lets, expire-lets, retain-owned-lets}
 use Rattle.laws.specs.RacesKept.{unresponsive-steady, confirm-steady, hedge-steady}
 use Rattle.laws.specs.CallsKept.{duplicate-steady, credit-lets, received-lets, reject-lets, fanout-steady, preferred-steady}
+use Rattle.laws.specs.Fits.{FitsChange}
 use Rattle.laws.specs.LooksKept.{observe-steady}
-use Rattle.laws.specs.Kept.{FitsChange, Accepted, accepted-is, body-le, seat-le, change-sound}
+use Rattle.laws.specs.Kept.{Accepted, body-le, seat-le, change-sound}
 use Rattle.history.specs.Book.{entries-of, fetch-opens, opens-entries}
 
 -- from the entries l to n: es come in, and gs are picked out

@@ -1,14 +1,14 @@
 -- What the calls' reports held when they returned, place by place. Definitions only.
 use mathlib.Core.Path.{_≡_}
-use mathlib.Core.Bool.{Bool, true, false, cond, _&&_}
-use mathlib.Core.List.{List, [], _∷_, _++_}
-use Prim.Native.Nat.{ℕ, zero, suc, _≤_}
+use mathlib.Core.Bool.{Bool, cond, _&&_}
+use mathlib.Core.List.{List, [], _∷_}
+use Prim.Native.Nat.{ℕ, _≤_}
 use lib.Dec.{eqb}
 use lib.ListN.{length, take, drop}
 use Rattle.model.specs.Refusals.{Call, opens, changes, queries}
 use Rattle.model.specs.Perform.{Answer, refused, says}
 use Rattle.model.specs.declared.Release.{Release}
-use Rattle.history.specs.Run.{Act, Done}
+use Rattle.history.specs.Run.{Done}
 use Rattle.history.specs.Book.{Mark}
 
 -- how many places an answer counts

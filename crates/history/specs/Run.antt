@@ -4,6 +4,7 @@ use Prim.Native.Nat.{ℕ}
 use Rattle.model.specs.Refusals.{Call}
 use Rattle.model.specs.Perform.{Outcome, perform}
 use Rattle.model.specs.declared.Release.{Release}
+use Rattle.laws.specs.Fits.{Fits}
 
 -- a call with its arguments, and the report that is lent to it
 pub record Act : Type 0 where
@@ -31,3 +32,8 @@ run (a ∷ rest) s = run rest (run-step a s)
 -- words of any content, before the first call
 abbrev pub on-words : List ℕ → Run
 on-words ws = record { words = ws; done = [] }
+
+-- the arguments of all are such as the code's types can hold
+abbrev pub AllFit : List Act → Type 0
+AllFit [] = Unit {0}
+AllFit (a ∷ rest) = Fits (a .call) × AllFit rest

@@ -1,32 +1,28 @@
 -- The invariant, kept by every call, so by every list of calls. Assumes nothing.
 use mathlib.Core.Path.{_≡_, refl, sym, ap, _∙_, subst}
-use mathlib.Core.Logic.{_⊎_, inl, inr}
-use mathlib.Core.Bool.{Bool, true, false, cond}
 use mathlib.Core.List.{List, [], _∷_, _++_, append-nil}
-use Prim.Native.Nat.{ℕ, zero, suc, _+_, _-_, _≤_, _<_}
+use Prim.Native.Nat.{ℕ, zero, suc, _+_, _-_, _≤_}
 use native.Mathlib.Omega.{arith}
 use lib.ListN.{length, take, drop, replicate, length-append, length-drop}
 use lib.Seq.{take-at, drop-at}
-use lib.Dec.{eqb}
 use borrow.Author.Tests.{eq-eqb}
 use Rattle.model.specs.Window.{Window}
 use Rattle.model.specs.Calls.{opened}
-use Rattle.model.specs.Layout.{encode, window-of, is-window}
-use Rattle.model.specs.Queries.{Query}
+use Rattle.model.specs.Layout.{encode, window-of}
 use Rattle.model.specs.Refusals.{Change, Call, opens, changes, queries, Checks, checks, query-checks, refusal-at, window-refusal, opening-refusal, refusal}
-use Rattle.model.specs.Perform.{Deed, change, moment-of, changed, does, Answer, refused, says, Outcome, words-by, gone-by, answer-by, words-after, gone-after, answer-after, perform}
-use Rattle.model.specs.declared.Entry.{Entry}
+use Rattle.model.specs.Perform.{moment-of, changed, says, Outcome, words-by, gone-by, answer-by, words-after, gone-after, answer-after, perform}
 use Rattle.model.specs.declared.Release.{Release}
 use Rattle.model.specs.declared.Settings.{Settings}
-use Rattle.laws.specs.Bag.{weigh, Same}
+use Rattle.laws.specs.Bag.{weigh}
 use Rattle.laws.specs.Sound.{Sound}
-use Rattle.laws.specs.Kept.{Fits, FitsChange, Accepted, accepted-is, sound-then, changed-sound, opens-sound}
-use Rattle.laws.specs.Words.{Encodes, sound-words}
-use Rattle.history.specs.Run.{Act, Done, Run, run-step, run, on-words}
-use Rattle.history.specs.Book.{Line, Mark, pending-lines, marks, mark-all, add-lines, opens-entries, writes, own-by, Book, own-refusal, book-step, book, new-book}
-use Rattle.history.specs.Reports.{count-of, Told, anew, counts, tells-by, tells, AsLent}
+use Rattle.laws.specs.Fits.{Fits, FitsChange}
+use Rattle.laws.specs.Kept.{accepted-is, sound-then, changed-sound, opens-sound}
+use Rattle.laws.specs.Words.{sound-words}
+use Rattle.history.specs.Run.{Act, Done, Run, run-step, run, on-words, AllFit}
+use Rattle.history.specs.Book.{Line, Mark, pending-lines, marks, opens-entries, writes, own-by, Book, own-refusal, book-step, book, new-book}
+use Rattle.history.specs.Reports.{Told, anew, counts, tells-by, tells, AsLent}
 use Rattle.history.specs.Lines.{Agree, told, agree-outs, agree-adds}
-use Rattle.history.specs.Moves.{Moves, change-moves, gone-room}
+use Rattle.history.specs.Moves.{change-moves, gone-room}
 
 -- ---- the log: each counted place since the last accepted opening, as a mark would name it
 
@@ -159,10 +155,6 @@ goes-by zero i (queries y) lent w ls log f q v =
 goes-by zero i (changes x) lent w ls log f q v = change-goes x lent w i ls log f q v
 
 -- ---- every list of calls
-
-abbrev pub AllFit : List Act → Type 0
-AllFit [] = Unit {0}
-AllFit (a ∷ rest) = Fits (a .call) × AllFit rest
 
 sync-step : (a : Act) (b : Book) (s : Run) → Fits (a .call) → Sync b s → Sync (book-step a b) (run-step a s)
 unfolding book-step run-step log-of tells

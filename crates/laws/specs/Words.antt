@@ -1,21 +1,20 @@
 -- WORDS AND WINDOWS. Words that count as a window are the words of the window that is read from them, and that window is sound; the words of a sound
 -- window count as one and read back. Assumes nothing.
 use mathlib.Core.Path.{_≡_, refl, sym, ap, _∙_}
-use mathlib.Core.Logic.{_⊎_, inl, inr}
-use mathlib.Core.Bool.{Bool, true, false, cond, _&&_}
+use mathlib.Core.Bool.{Bool, true, false}
 use mathlib.Core.List.{List, [], _∷_, _++_}
-use Prim.Native.Nat.{ℕ, zero, suc, _+_, _-_, _*_, _≤_, _<_}
+use Prim.Native.Nat.{ℕ, zero, suc, _+_, _-_, _*_, _≤_}
 use native.Mathlib.Omega.{arith}
 use lib.ListN.{length, getD, take, drop, replicate, length-append, length-drop, length-replicate, take-append-drop}
 use lib.Seq.{take-at, drop-at, length-take-le, take-all}
-use lib.Dec.{eqb, leb, ltb}
+use lib.Dec.{leb}
 use borrow.Author.Tests.{eqb-true, eq-eqb, leb-true, le-leb}
 use Rattle.model.specs.Numbers.{max-clock, max-height, min-estimate, max-estimate, max-duration, max-seat, max-front-mean, max-pending}
 use Rattle.model.specs.Lists.{pad, all, every}
-use Rattle.model.specs.Hash.{hash, hashes-in, hashes-words}
+use Rattle.model.specs.Hash.{hashes-in, hashes-words}
 use Rattle.model.specs.Records.{sum}
-use Rattle.model.specs.Window.{Window, window}
-use Rattle.model.specs.Layout.{Table, blank, decode, flat, table, read, word, words-at, hash-at, live, settings-words, settings-of, counts-words, small-words, head-words, flag-word, source-word, source-of, stall-words, stall-of, stuck-words, stuck-of, cold-words, cold-of, hedged-words, observation-words, observation-of, probe-words, probe-of, planned-words, format, is-0, settings-ok, counts-ok, small-ok, zeros, time-ok, stall-ok, stuck-ok, cold-ok, hedged-ok, observation-ok, probe-ok, head-ok, is-blank, entry-ok, rising, starts-ok, tables-ok, records-ok, valid, encode, window-of, is-window}
+use Rattle.model.specs.Window.{Window}
+use Rattle.model.specs.Layout.{Table, blank, decode, flat, table, read, word, words-at, hash-at, live, settings-words, settings-of, counts-words, small-words, head-words, flag-word, source-word, source-of, stall-words, stall-of, stuck-words, stuck-of, cold-words, cold-of, hedged-words, observation-words, observation-of, probe-words, probe-of, planned-words, format, is-0, settings-ok, counts-ok, small-ok, zeros, hedged-ok, head-ok, is-blank, entry-ok, rising, starts-ok, tables-ok, records-ok, valid, encode, window-of, is-window}
 use Rattle.model.specs.declared.Hash.{Hash}
 use Rattle.model.specs.declared.Entry.{Entry}
 use Rattle.model.specs.declared.Source.{Source}
@@ -30,11 +29,10 @@ use Rattle.model.specs.declared.Probe.{Probe}
 use Rattle.model.specs.declared.Probe.the-variants.{NoProbe, Probing}
 use Rattle.model.specs.declared.Observation.{Observation}
 use Rattle.model.specs.declared.Observation.the-variants.{Unarmed, Armed, Swept}
-use Rattle.laws.specs.Numbers.{both}
 use Rattle.laws.specs.Every.{hold, and-so}
 use Rattle.laws.specs.Tables.{Sized, sized-decode, flat-decode, length-flat, decode-flat}
-use Rattle.laws.specs.Sound.{Bounded, SoundSource, SoundProbe, Sound}
-use Rattle.laws.specs.Heads.{seg, front, front-is, listed, listed-is, cut, zeros-are, all-zeros, hashes-said, length-padded, count-said, padded-back, padded-zero, word-is, source-back, source-said, flag-back, flag-said, stall-back, stuck-back, cold-back, observation-back, probe-back, stall-said, stuck-said, cold-said, observation-said, probe-said}
+use Rattle.laws.specs.Sound.{SoundSource, SoundProbe, Sound}
+use Rattle.laws.specs.Heads.{seg, front-is, listed, listed-is, cut, nought, all-zeros, hashes-said, length-padded, count-said, padded-back, padded-zero, word-is, source-back, source-said, flag-back, flag-said, stall-back, stuck-back, cold-back, observation-back, probe-back, stall-said, stuck-said, cold-said, observation-said, probe-said}
 use Rattle.laws.specs.Valid.{bounded-all, all-bounded, each-all, all-each, rising-is, is-rising, blanks-are, all-blanks, starts-all, starts-each, stall-valid, stuck-valid, cold-valid, observation-valid, probe-valid, StallFacts, stall-facts, StuckFacts, stuck-facts, ColdFacts, cold-facts, ObservationFacts, observation-facts, ProbeFacts, probe-facts}
 
 -- ---- the groups of a window's head
@@ -394,7 +392,7 @@ module _ (t : Table) (z : Sized t) where
     rest-group =
         let n : length (drop 97 (t .head)) ≡ 415 = rw length-drop (omega (arith, z .head)) in
         let all-0 : all is-0 (drop 97 (t .head)) ≡ true = ap (all is-0) (sym (take-all 415 (drop 97 (t .head)) (omega (arith, n)))) ∙ v .rest in
-        ap (λ (m : ℕ). replicate m 0) (sym n) ∙ sym (zeros-are (drop 97 (t .head)) all-0)
+        nought (drop 97 (t .head)) 415 n all-0
 
     -- the groups from 27 on
     tail-groups : stall-words (stall-of (word 27 t) (word 28 t) (hash-at 29 t)) ++ (stuck-words (stuck-of (word 33 t) (word 34 t) (hash-at 35 t))
@@ -432,7 +430,7 @@ module _ (t : Table) (z : Sized t) where
         let rest : length (drop n es) ≡ 256 - length (take n es) = length-drop n es ∙ omega (arith, z .entries, many) in
         let after : replicate (256 - length (take n es)) blank ≡ drop n es = ap (λ (m : ℕ). replicate m blank) (sym rest) ∙ sym (blanks-are (drop n es) (v .clear)) in
         let whole : take n es ++ replicate (256 - length (take n es)) blank ≡ es = ap (λ (l : List Entry). take n es ++ l) after ∙ take-append-drop n es in
-        let spare : replicate 256 0 ≡ t .spare = ap (λ (m : ℕ). replicate m 0) (sym (z .spare)) ∙ sym (zeros-are (t .spare) (v .spare)) in
+        let spare : replicate 256 0 ≡ t .spare = nought (t .spare) 256 (z .spare) (v .spare) in
         λ i. record { entries = whole i; spare = spare i; starts = t .starts; bodies = t .bodies; keys = t .keys; cooling = t .cooling; racers = t .racers; head = head-read i }
 
     source-in : (n : ℕ) → n ≤ suc max-seat → SoundSource (source-of n)
