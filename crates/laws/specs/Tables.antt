@@ -3,13 +3,13 @@ use mathlib.Core.Path.{_≡_, refl, sym, ap, _∙_}
 use mathlib.Core.List.{List, [], _∷_, _++_, map, append-assoc}
 use Prim.Native.Nat.{ℕ, zero, suc, _+_, _-_, _*_, _≤_, _<_}
 use native.Mathlib.Omega.{arith}
-use lib.ListN.{length, take, drop, getD, set, length-append, length-drop, length-map, length-set, take-append-drop}
-use lib.Seq.{drop-drop, take-take, take-add, length-take-le, getD-take, getD-drop, take-at, drop-at, drop-append-le}
+use lib.ListN.{length, take, drop, getD, length-append, length-drop, length-map, take-append-drop}
+use lib.Seq.{drop-drop, take-add, length-take-le, getD-take, getD-drop, take-at, drop-at, drop-append-le}
 use Rattle.column.proofs.Parts.{put, put-long, put-part, put-before, put-after, put-lower, put-higher, take-drop}
 use Rattle.model.specs.Lists.{removeAt, inserted, keptBy}
-use Rattle.model.specs.Layout.{Table, blank, entry-at, rows, decode, field, columns, column-count, flat, word}
+use Rattle.model.specs.Layout.{Table, blank, entry-at, rows, decode, field, columns, flat, word}
 use Rattle.model.specs.declared.Entry.{Entry}
-use Rattle.laws.specs.Rows.{col, Upto, field-blank, lift, entries-ext, col-rows, rows-prefix, rows-at, length-rows, map-removed, map-inserted, map-kept}
+use Rattle.laws.specs.Rows.{Upto, field-blank, lift, entries-ext, col-rows, rows-prefix, rows-at, length-rows, map-removed, map-inserted, map-kept}
 
 -- ---- one part replaced, the others as they were
 
