@@ -3,10 +3,10 @@ use mathlib.Core.Path.{_≡_, refl, sym, ap, _∙_}
 use mathlib.Core.List.{List, [], _∷_, _++_, map, append-assoc}
 use Prim.Native.Nat.{ℕ, zero, suc, _+_, _-_, _*_, _≤_, _<_}
 use native.Mathlib.Omega.{arith}
-use lib.ListN.{length, take, drop, getD, length-append, length-drop, length-map, take-append-drop, replicate}
-use lib.Seq.{drop-drop, take-add, length-take-le, getD-take, getD-drop, take-at, drop-at, drop-append-le, take-append-add, drop-append-add}
+use lib.ListN.{length, take, drop, getD, length-append, length-drop, length-map, take-append-drop, replicate, List·getD-append}
+use lib.Seq.{drop-drop, take-add, length-take-le, getD-take, getD-drop, take-at, drop-at, drop-append-le, take-append-add, drop-append-add, getD-append-add}
 use Rattle.column.proofs.Parts.{put, put-long, put-part, put-before, put-after, put-lower, put-higher, take-drop}
-use Rattle.model.specs.Lists.{removeAt, inserted, keptBy, pad}
+use Rattle.model.specs.Lists.{removeAt, insertAt, inserted, keepBy, keptBy, pad}
 use Rattle.model.specs.Hash.{hashes-words}
 use Rattle.model.specs.Window.{Window, with-clock, with-mean, with-frontier, with-fanout, with-pace, with-preferred, with-attempted, with-stall, with-stuck, with-cold, with-hedged, with-observation, with-probe}
 use Rattle.model.specs.Layout.{Table, blank, entry-at, rows, decode, field, columns, flat, word, format, table, head-words, counts-words, settings-words, small-words, flag-word, source-word, stall-words, stuck-words, cold-words, hedged-words, observation-words, probe-words, planned-words}
@@ -27,6 +27,7 @@ use Rattle.model.specs.declared.Probe.the-variants.{NoProbe, Probing}
 use Rattle.model.specs.declared.Observation.{Observation}
 use Rattle.model.specs.declared.Observation.the-variants.{Unarmed, Armed, Swept}
 use Rattle.column.proofs.Laws.{length-pad}
+use Rattle.column.proofs.Pads.{removed-pad, inserted-pad, kept-pad}
 use Rattle.laws.specs.Rows.{Upto, field-blank, lift, entries-ext, col-rows, rows-prefix, rows-at, length-rows, map-removed, map-inserted, map-kept}
 
 -- ---- one part replaced, the others as they were
@@ -605,3 +606,59 @@ module _ (w : Window) where
         let second = after-stuck 26 65 z _ _ refl (after-hedged 10 26 z _ _ refl (past 6 4 10 z o _ _ (length-observation (w .watch .observation)) refl
         (past 4 0 4 z m _ _ (length-probe p (length hs)) refl (swap z y (replicate 415 0) (length-planned (w .races .planned) eight ∙ sym (length-planned hs h)))))) in
         ap (λ (l : List ℕ). with-racers rs (with-head l (table w))) (ap (replaced 65 z) first ∙ second)
+
+-- ---- the entries of a window's table: an operation on all 256 places is the operation on the live ones
+
+module _ (w : Window) (most : length (w .queue .pending) ≤ 256) where
+  pub table-removed : (k : ℕ) → k < length (w .queue .pending) → removed k (table w) ≡ with-entries (pad 256 blank (removeAt k (w .queue .pending))) (table w)
+  unfolding removed table
+  table-removed k h = ap (λ (es : List Entry). with-entries es (table w)) (removed-pad 256 k blank (w .queue .pending) h most)
+
+  pub table-put-in : (k : ℕ) (e : Entry) → k ≤ length (w .queue .pending) → length (w .queue .pending) < 256
+      → put-in k e (table w) ≡ with-entries (pad 256 blank (insertAt k e (w .queue .pending))) (table w)
+  unfolding put-in table
+  table-put-in k e h room = ap (λ (es : List Entry). with-entries es (table w)) (inserted-pad 256 k e blank (w .queue .pending) h room)
+
+  pub table-kept : (ms : List ℕ) → length ms ≡ 256
+      → kept-rows ms (table w) ≡ with-entries (pad 256 blank (keepBy (take (length (w .queue .pending)) ms) (w .queue .pending))) (table w)
+  unfolding kept-rows table
+  table-kept ms n = ap (λ (es : List Entry). with-entries es (table w)) (kept-pad 256 ms blank (w .queue .pending) most (omega arith))
+
+-- ---- the head's words after some were written at k
+
+module _ (k : ℕ) (m : List ℕ) (t : Table) (s : Sized t) (fits : k + length m ≤ 512) where
+  before : length (take k (t .head)) ≡ k
+  before = length-take-le k (t .head) (omega (arith, s .head))
+
+  pub word-before : (i : ℕ) → i < k → word i (with-words k m t) ≡ word i t
+  unfolding word with-words with-head replaced
+  word-before i h = List·getD-append (take k (t .head)) (m ++ drop (k + length m) (t .head)) 0 i (omega (arith, before)) ∙ getD-take k (t .head) i 0 h
+
+  pub word-in : (j : ℕ) → j < length m → word (k + j) (with-words k m t) ≡ getD m j 0
+  unfolding word with-words with-head replaced
+  word-in j h =
+      let e : k + j ≡ length (take k (t .head)) + j = omega (arith, before) in
+      ap (λ (i : ℕ). getD (take k (t .head) ++ (m ++ drop (k + length m) (t .head))) i 0) e
+      ∙ getD-append-add (take k (t .head)) (m ++ drop (k + length m) (t .head)) j 0 ∙ List·getD-append m (drop (k + length m) (t .head)) 0 j h
+
+  pub word-after : (j : ℕ) → word (k + length m + j) (with-words k m t) ≡ word (k + length m + j) t
+  unfolding word with-words with-head replaced
+  word-after j =
+      let e : k + length m + j ≡ length (take k (t .head)) + (length m + j) = omega (arith, before) in
+      ap (λ (i : ℕ). getD (take k (t .head) ++ (m ++ drop (k + length m) (t .head))) i 0) e
+      ∙ getD-append-add (take k (t .head)) (m ++ drop (k + length m) (t .head)) (length m + j) 0 ∙ getD-append-add m (drop (k + length m) (t .head)) j 0
+      ∙ getD-drop (k + length m) (t .head) j 0
+
+  -- and the lists keep their lengths
+  pub sized-words : Sized (with-words k m t)
+  unfolding with-words with-head replaced
+  sized-words = record {
+    entries = s .entries;
+    spare = s .spare;
+    starts = s .starts;
+    bodies = s .bodies;
+    keys = s .keys;
+    cooling = s .cooling;
+    racers = s .racers;
+    head = simp (length-append, length-drop, before) (omega (arith, s .head));
+  }
