@@ -8,9 +8,6 @@ use Rattle.plans.specs.Rows.{rows-words, words-rows}
 use borrow.Author.Needs.{needs}
 use Rattle.plans.proofs.load_hedged.Statement.{statement}
 use Rattle.plans.proofs.load_hedged.Tie as tie
-use Rattle.plans.proofs.load_hedged.Reads as reads
-use Rattle.plans.proofs.load_hedged.Lts as lts
-use Rattle.plans.proofs.row_of.Reads as row-of-reads
 
 row-of-requires : tie.Need-row-of-requires
 row-of-requires c κs = search needs

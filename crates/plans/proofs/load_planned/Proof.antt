@@ -8,9 +8,6 @@ use Rattle.plans.specs.Rows.{rows-words, words-rows}
 use borrow.Author.Needs.{needs}
 use Rattle.plans.proofs.load_planned.Statement.{statement}
 use Rattle.plans.proofs.load_planned.Tie as tie
-use Rattle.plans.proofs.load_planned.Reads as reads
-use Rattle.plans.proofs.load_planned.Lts as lts
-use Rattle.plans.proofs.row_of.Reads as row-of-reads
 
 row-of-requires : tie.Need-row-of-requires
 row-of-requires c κs = search needs

@@ -2,11 +2,8 @@
 use native.Mathlib.Omega.{arith}
 use mathlib.Core.Path.{refl}
 use Rattle.plans.specs.Rows.{rows-words}
-use borrow.Author.Needs.{needs}
 use Rattle.plans.proofs.planned_list.Statement.{statement}
 use Rattle.plans.proofs.planned_list.Tie as tie
-use Rattle.plans.proofs.planned_list.Reads as reads
-use Rattle.plans.proofs.planned_list.Lts as lts
 
 index-1-t7 : tie.Need-index-1-t7
 index-1-t7 c = omega arith

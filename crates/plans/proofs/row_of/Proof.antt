@@ -6,11 +6,8 @@ use native.Mathlib.Omega.{arith}
 use lib.ListN.{getD}
 use Rattle.model.specs.Layout.{decode, word}
 use Rattle.laws.specs.Tables.{word-decode}
-use borrow.Author.Needs.{needs}
 use Rattle.plans.proofs.row_of.Statement.{statement}
 use Rattle.plans.proofs.row_of.Tie as tie
-use Rattle.plans.proofs.row_of.Reads as reads
-use Rattle.plans.proofs.row_of.Lts as lts
 
 at : (k j : ℕ) (ws : List ℕ) → getD ws (3584 + k + j) 0 ≡ word (k + j) (decode ws)
 at k j ws = let e : 3584 + k + j ≡ 3584 + (k + j) = omega arith in ap (λ (n : ℕ). getD ws n 0) e ∙ sym (word-decode (k + j) ws)

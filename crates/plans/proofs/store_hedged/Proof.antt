@@ -7,10 +7,6 @@ use Rattle.laws.specs.Tables.{with-words}
 use borrow.Author.Needs.{needs}
 use Rattle.plans.proofs.store_hedged.Statement.{statement}
 use Rattle.plans.proofs.store_hedged.Tie as tie
-use Rattle.plans.proofs.store_hedged.Reads as reads
-use Rattle.plans.proofs.store_hedged.Lts as lts
-use Rattle.layout.proofs.store_at.Reads as store-at-reads
-use Rattle.plans.proofs.hedged_list.Reads as hedged-list-reads
 
 hedged-list-requires : tie.Need-hedged-list-requires
 hedged-list-requires c κs = search needs

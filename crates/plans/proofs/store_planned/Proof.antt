@@ -7,10 +7,6 @@ use Rattle.laws.specs.Tables.{with-words}
 use borrow.Author.Needs.{needs}
 use Rattle.plans.proofs.store_planned.Statement.{statement}
 use Rattle.plans.proofs.store_planned.Tie as tie
-use Rattle.plans.proofs.store_planned.Reads as reads
-use Rattle.plans.proofs.store_planned.Lts as lts
-use Rattle.layout.proofs.store_at.Reads as store-at-reads
-use Rattle.plans.proofs.planned_list.Reads as planned-list-reads
 
 planned-list-requires : tie.Need-planned-list-requires
 planned-list-requires c κs = search needs
