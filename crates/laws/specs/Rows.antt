@@ -8,8 +8,8 @@ use native.Mathlib.Omega.{arith}
 use lib.ListN.{length, take, drop, getD, replicate, length-drop, length-map, drop-of-length-le}
 use lib.Seq.{drop-cons, drop-drop, take-take, length-take-le, getD-take, getD-drop}
 use borrow.Author.Count.{below-more}
-use Rattle.column.proofs.Parts.{put, put-long, put-part, put-before, put-after, put-lower, put-higher, take-drop}
-use Rattle.model.specs.Lists.{removeAt, insertAt, inserted, keptIf, keepBy, keptBy}
+use Rattle.column.proofs.Parts.{put, put-long, put-part, put-after, put-lower, put-higher, take-drop}
+use Rattle.model.specs.Lists.{removeAt, insertAt, inserted, keepBy, keptBy}
 use Rattle.model.specs.Layout.{blank, entry-at, rows, field}
 use Rattle.model.specs.declared.Entry.{Entry}
 
@@ -131,14 +131,20 @@ rows-at zero i ws h = absurd (not-suc-le-zero h)
 rows-at (suc n) zero ws h = refl
 rows-at (suc n) (suc i) ws h = rows-at n i (drop 1 ws) (le-of-suc-le-suc h) ∙ ap entry-at (drop-drop i 1 ws ∙ rw one-add)
 
--- a scan from the last of the first m entries to the first: what is left at i begins with the entry at i
+-- the first m entries: how many, and the one at i
+pub length-live : (m : ℕ) (ws : List ℕ) → m ≤ 256 → length (take m (rows 256 ws)) ≡ m
+length-live m ws k = length-take-le m (rows 256 ws) (rw length-rows k)
+
+pub live-at : (m i : ℕ) (ws : List ℕ) → i < m → m ≤ 256 → getD (take m (rows 256 ws)) i blank ≡ entry-at (drop i ws)
+live-at m i ws h k = getD-take m (rows 256 ws) i blank h ∙ rows-at 256 i ws (omega arith)
+
+-- a scan over them: what is left at i begins with the entry at i
 pub live-cons : (m i : ℕ) (ws : List ℕ) → i < m → m ≤ 256 → drop i (take m (rows 256 ws)) ≡ entry-at (drop i ws) ∷ drop (suc i) (take m (rows 256 ws))
 live-cons m i ws h k =
-    drop-cons (take m (rows 256 ws)) i blank (rw (length-take-le m (rows 256 ws) (rw length-rows k)) h)
-    ∙ ap (λ (e : Entry). e ∷ drop (suc i) (take m (rows 256 ws))) (getD-take m (rows 256 ws) i blank h ∙ rows-at 256 i ws (omega arith))
+    drop-cons (take m (rows 256 ws)) i blank (rw (length-live m ws k) h) ∙ ap (λ (e : Entry). e ∷ drop (suc i) (take m (rows 256 ws))) (live-at m i ws h k)
 
 pub live-end : (m : ℕ) (ws : List ℕ) → m ≤ 256 → drop m (take m (rows 256 ws)) ≡ []
-live-end m ws k = drop-of-length-le (take m (rows 256 ws)) {i = m} (rw (length-take-le m (rows 256 ws) (rw length-rows k)) (omega arith))
+live-end m ws k = drop-of-length-le (take m (rows 256 ws)) {i = m} (rw (length-live m ws k) (omega arith))
 
 pub word-at : (i : ℕ) (ws : List ℕ) (k : ℕ) → k < 8 → field k (entry-at (drop i ws)) ≡ getD ws (i + 256 * k) 0
 word-at i ws k b = field-at k b (drop i ws) ∙ getD-drop i ws (256 * k) 0

@@ -1,0 +1,97 @@
+-- `records::insert` meets its contract. Assumes nothing.
+use Rattle.model.specs.Lists.{inserted}
+use Rattle.laws.specs.Rows.{mid}
+use Rattle.laws.specs.Tables.{put-col, decode-put-in}
+use Rattle.laws.specs.Rows.{Upto, upto-start, upto-call}
+use mathlib.Core.Path.{_≡_, ap, _∙_, subst}
+use Prim.Native.Nat.{ℕ, _-_, _≤_}
+use native.Mathlib.Omega.{arith}
+use borrow.Author.Needs.{needs}
+use Rattle.records.proofs.insert.Statement.{statement}
+use Rattle.records.proofs.insert.Tie as tie
+
+abbrev Inv-loop : tie.InvT-loop
+Inv-loop words₀ at e k₀ words k = (k ≤ 8) × Upto (put-col at e) k words₀ words
+
+abbrev μ-loop : tie.MeasureT-loop
+μ-loop words₀ at e k₀ words k = 8 - k
+
+loop-holds : tie.Need-loop-holds Inv-loop μ-loop
+loop-holds c = (omega arith, upto-start (put-col (c .before .args .at) (c .before .args .e)) (c .before .args .words .now))
+
+mul-a : tie.Need-mul-a Inv-loop μ-loop
+mul-a c = omega arith
+
+add-z : tie.Need-add-z Inv-loop μ-loop
+add-z c = omega arith
+
+field-of-requires : tie.Need-field-of-requires Inv-loop μ-loop
+field-of-requires c κs = search needs
+
+mul-insert-at : tie.Need-mul-insert-at Inv-loop μ-loop
+mul-insert-at c = omega arith
+
+sub-insert-at : tie.Need-sub-insert-at Inv-loop μ-loop
+sub-insert-at c = omega arith
+
+part-insert-at-start : tie.Need-part-insert-at-start Inv-loop μ-loop
+part-insert-at-start c = omega arith
+
+part-insert-at-end : tie.Need-part-insert-at-end Inv-loop μ-loop
+part-insert-at-end c = omega arith
+
+insert-at-requires : tie.Need-insert-at-requires Inv-loop μ-loop
+insert-at-requires c κs = search needs
+
+add-k : tie.Need-add-k Inv-loop μ-loop
+add-k c = omega arith
+
+loop-less : tie.Need-loop-less Inv-loop μ-loop
+loop-less c = omega arith
+
+loop-again : tie.Need-loop-again Inv-loop μ-loop
+loop-again c =
+    let at-call = c .before .before in
+    let at-field = at-call .before .before in
+    let at-loop = at-field .before .before in
+    let at-start = at-loop .before .before in
+    let at = at-start .args .at in (
+      omega arith,
+      upto-call (put-col at (at-start .args .e)) (at-loop .loop .k) (at-start .args .words .now) (at-loop .loop .words) (at-call .insert-at .last .0)
+          (omega arith) (at-start .pre .0) (at-call .insert-at .kept .0)
+          (at-call .insert-at .ensures ∙ ap (λ (v : ℕ). inserted at v (mid (at-loop .loop .k) (at-loop .loop .words))) (at-field .field-of .ensures)) (at-loop .loop .inv .1),
+    )
+
+same-length : tie.Need-same-length Inv-loop μ-loop
+same-length c = c .before .loop .inv .1 .long
+
+returns : tie.Need-returns Inv-loop μ-loop
+returns c =
+    let at-loop = c .before in
+    let at-start = at-loop .before .before in
+    let at = at-start .args .at in
+    let e = at-start .args .e in
+    let eight : at-loop .loop .k ≡ 8 = omega arith in
+    decode-put-in at e (at-start .args .words .now) (at-loop .loop .words) (at-start .pre .0)
+    (subst (λ (k : ℕ). Upto (put-col at e) k (at-start .args .words .now) (at-loop .loop .words)) eight (at-loop .loop .inv .1))
+
+pub insert-spec : {M : Type 1} → statement M
+insert-spec =
+    tie.close
+    (tie.spec
+    Inv-loop
+    μ-loop
+    loop-holds
+    mul-a
+    add-z
+    field-of-requires
+    mul-insert-at
+    sub-insert-at
+    part-insert-at-start
+    part-insert-at-end
+    insert-at-requires
+    add-k
+    loop-less
+    loop-again
+    same-length
+    returns)

@@ -1,0 +1,278 @@
+// The records in the 4,096 lent words: eight columns of 256 places. A contract speaks of `decode`, which every list of words has: nothing is
+// asked but lengths and indices. `count` is how many places are live.
+ghost use mathlib.Core.Path.{_≡_};
+ghost use mathlib.Core.Bool.{_&&_, cond};
+ghost use Prim.Native.Nat.{_<_, _≤_, suc};
+ghost use lib.ListN.{length, take, drop, getD};
+ghost use lib.Dec.{eqb};
+ghost use Rattle.model.specs.Hash.{hash, same, less};
+ghost use Rattle.model.specs.Records.{lowest, at-height, pending-count-for};
+ghost use Rattle.model.specs.Seats.{sooner, oldest};
+ghost use Rattle.model.specs.Pace.{was-front};
+ghost use Rattle.model.specs.Layout.{decode, entry-at, field, blank};
+ghost use Rattle.laws.specs.Tables.{removed, put-in, kept-rows};
+ghost use Rattle.records.specs.Places.{Parts, Finds, front-at, stored};
+use model::Entry;
+use model::Front;
+use model::Hash;
+
+// Where a hash is among the records, or where it would go.
+pub enum Place {
+    Here(usize),
+    Free(usize),
+}
+
+// The least request time of an owner, where it has records.
+pub enum Oldest {
+    Never,
+    Since(u64),
+}
+
+// The columns; a ninth would take the words from 2048 on.
+const COLUMNS: usize = 8;
+
+// ---- one record
+
+fn hash_of(words: &[u64], i: usize) -> Hash
+    requires { ⌜ (length (now words) ≡ 4096) × (i < 256) ⌝ }
+    ensures { λ r. ⌜ r ≡ entry-at (drop i (now (words .entry))) .hash ⌝ }
+{
+    Hash {
+        a: words[i],
+        b: words[i + 256],
+        c: words[i + 512],
+        d: words[i + 768],
+    }
+}
+
+// The record at a place.
+pub fn entry_of(words: &[u64], i: usize) -> Entry
+    requires { ⌜ (length (now words) ≡ 4096) × (i < 256) ⌝ }
+    ensures { λ r. ⌜ r ≡ getD (decode (now (words .entry)) .entries) i blank ⌝ }
+{
+    let hash = hash_of(words, i);
+    Entry {
+        hash,
+        owner: words[i + 1024],
+        time: words[i + 1280],
+        height: words[i + 1536],
+        estimate: words[i + 1792],
+    }
+}
+
+// ---- changes, column by column
+
+// `removed`: the record at `at` taken out.
+pub fn remove(words: &mut [u64], at: usize)
+    requires { ⌜ (length (now words) ≡ 4096) × (at < 256) ⌝ }
+    ensures { λ _. ⌜ decode (now (words .exit)) ≡ removed at (decode (now (words .entry))) ⌝ }
+{
+    let mut k = 0;
+    while k < COLUMNS {
+        let a = 256 * k;
+        let e = a + 256;
+        column::remove_at(&mut words[a..e], at);
+        k += 1;
+    }
+}
+
+// The word of an entry that is in the column k.
+fn field_of(e: Entry, k: usize) -> u64
+    requires { ⌜ k < 8 ⌝ }
+    ensures { λ r. ⌜ r ≡ field k e ⌝ }
+{
+    let h = e.hash;
+    let l = [h.a, h.b, h.c, h.d, e.owner, e.time, e.height, e.estimate];
+    l[k]
+}
+
+// `put-in`: an entry put in at `at`.
+pub fn insert(words: &mut [u64], at: usize, e: Entry)
+    requires { ⌜ (length (now words) ≡ 4096) × (at ≤ 256) ⌝ }
+    ensures { λ _. ⌜ decode (now (words .exit)) ≡ put-in at e (decode (now (words .entry))) ⌝ }
+{
+    let mut k = 0;
+    while k < COLUMNS {
+        let a = 256 * k;
+        let z = a + 256;
+        let v = field_of(e, k);
+        column::insert_at(&mut words[a..z], at, v);
+        k += 1;
+    }
+}
+
+// `kept-rows`: the records whose mark is 0.
+pub fn keep(words: &mut [u64], marks: &[u64])
+    requires { ⌜ (length (now words) ≡ 4096) × (length (now marks) ≡ 256) ⌝ }
+    ensures { λ _. ⌜ decode (now (words .exit)) ≡ kept-rows (now (marks .entry)) (decode (now (words .entry))) ⌝ }
+{
+    let mut k = 0;
+    while k < COLUMNS {
+        let a = 256 * k;
+        let e = a + 256;
+        column::keep_unmarked(&mut words[a..e], marks);
+        k += 1;
+    }
+}
+
+// ---- the place of a hash
+
+// Whether the record at i comes before a hash.
+fn comes_before(words: &[u64], i: usize, h: Hash) -> bool
+    requires { ⌜ (length (now words) ≡ 4096) × (i < 256) ⌝ }
+    ensures { λ r. ⌜ r ≡ less (entry-at (drop i (now (words .entry))) .hash) h ⌝ }
+{
+    let g = hash_of(words, i);
+    hash::less(g, h)
+}
+
+// By halving: at most nine looks where a scan would take 128 on the mean; and what it promises, `Parts`, needs no order among the records.
+fn parting(words: &[u64], count: usize, h: Hash) -> usize
+    requires { ⌜ (length (now words) ≡ 4096) × (count ≤ 256) ⌝ }
+    ensures { λ r. ⌜ Parts h (take count (decode (now (words .entry)) .entries)) r ⌝ }
+{
+    let mut lo = 0;
+    let mut hi = count;
+    while lo < hi {
+        let mid = (lo + hi) / 2;
+        if comes_before(words, mid, h) {
+            lo = mid + 1;
+        } else {
+            hi = mid;
+        }
+    }
+    lo
+}
+
+// `Finds`: the place of a hash, or the one where it would go. On rising records `Here` is `found` and `remove`, `Free` is `insert`.
+pub fn find(words: &[u64], count: usize, h: Hash) -> Place
+    requires { ⌜ (length (now words) ≡ 4096) × (count ≤ 256) ⌝ }
+    ensures { λ r. ⌜ Finds h (take count (decode (now (words .entry)) .entries)) r ⌝ }
+{
+    let at = parting(words, count, h);
+    if at < count {
+        let g = hash_of(words, at);
+        if hash::equal(g, h) {
+            return Place::Here(at);
+        }
+    }
+    Place::Free(at)
+}
+
+// ---- scans, from the last record to the first, so that what is found is the definition's own recursion
+
+// `pending-count-for`
+pub fn pending_count_for(words: &[u64], count: usize, owner: u64) -> u64
+    requires { ⌜ (length (now words) ≡ 4096) × (count ≤ 256) ⌝ }
+    ensures { λ r. ⌜ r ≡ pending-count-for owner (take count (decode (now (words .entry)) .entries)) ⌝ }
+{
+    let mut n = 0;
+    let mut i = count;
+    while 0 < i {
+        i -= 1;
+        if words[i + 1024] == owner {
+            n += 1;
+        }
+    }
+    n
+}
+
+fn sooner_of(t: u64, r: Oldest) -> Oldest
+    ensures { λ s. ⌜ stored s ≡ sooner (suc t) (stored r) ⌝ }
+{
+    match r {
+        Oldest::Never => Oldest::Since(t),
+        Oldest::Since(u) => {
+            if t <= u {
+                Oldest::Since(t)
+            } else {
+                Oldest::Since(u)
+            }
+        }
+    }
+}
+
+fn sooner_if(o: u64, owner: u64, t: u64, r: Oldest) -> Oldest
+    ensures { λ s. ⌜ stored s ≡ cond (eqb o owner) (sooner (suc t) (stored r)) (stored r) ⌝ }
+{
+    if o == owner { sooner_of(t, r) } else { r }
+}
+
+// `oldest`
+pub fn oldest_of(words: &[u64], count: usize, owner: u64) -> Oldest
+    requires { ⌜ (length (now words) ≡ 4096) × (count ≤ 256) ⌝ }
+    ensures { λ r. ⌜ stored r ≡ oldest owner (take count (decode (now (words .entry)) .entries)) ⌝ }
+{
+    let mut found = Oldest::Never;
+    let mut i = count;
+    while 0 < i {
+        i -= 1;
+        let o = words[i + 1024];
+        let t = words[i + 1280];
+        found = sooner_if(o, owner, t, found);
+    }
+    found
+}
+
+// The place of the lowest record, the first among equals; `count` where there is none.
+fn lowest_place(words: &[u64], count: usize) -> usize
+    requires { ⌜ (length (now words) ≡ 4096) × (count ≤ 256) ⌝ }
+    ensures { λ r. ⌜ lowest (take count (decode (now (words .entry)) .entries)) ≡ front-at count r (decode (now (words .entry)) .entries) ⌝ }
+{
+    let mut best = count;
+    let mut low = 0xFFFF_FFFF_FFFF_FFFF;
+    let mut i = count;
+    while 0 < i {
+        i -= 1;
+        let g = words[i + 1536];
+        if g <= low {
+            best = i;
+            low = g;
+        }
+    }
+    best
+}
+
+// `lowest`
+pub fn lowest(words: &[u64], count: usize) -> Front
+    requires { ⌜ (length (now words) ≡ 4096) × (count ≤ 256) ⌝ }
+    ensures { λ r. ⌜ r ≡ lowest (take count (decode (now (words .entry)) .entries)) ⌝ }
+{
+    let at = lowest_place(words, count);
+    if at < count {
+        let e = entry_of(words, at);
+        return Front::At(e);
+    }
+    Front::Nothing
+}
+
+// `at-height`
+pub fn at_height(words: &[u64], count: usize, height: u64) -> Front
+    requires { ⌜ (length (now words) ≡ 4096) × (count ≤ 256) ⌝ }
+    ensures { λ r. ⌜ r ≡ at-height height (take count (decode (now (words .entry)) .entries)) ⌝ }
+{
+    let mut i = 0;
+    while i < count {
+        if words[i + 1536] == height {
+            let e = entry_of(words, i);
+            return Front::At(e);
+        }
+        i += 1;
+    }
+    Front::Nothing
+}
+
+// `was-front`
+pub fn was_front(words: &[u64], count: usize, height: u64) -> bool
+    requires { ⌜ (length (now words) ≡ 4096) × (count ≤ 256) ⌝ }
+    ensures { λ r. ⌜ r ≡ was-front height (take count (decode (now (words .entry)) .entries)) ⌝ }
+{
+    let mut i = 0;
+    while i < count {
+        if words[i + 1536] <= height {
+            return false;
+        }
+        i += 1;
+    }
+    true
+}

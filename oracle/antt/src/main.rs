@@ -1,0 +1,131 @@
+//! Writes seeded calls with the original's answers, gone entries and states as closed antt checks of the definitions.
+//! definitions CALLS SEED MODEL OUT LENGTH TABLE CALLS-A-FILE: MODEL is the folder of the model's specs, OUT the crate folder to write.
+
+use calls::compare;
+use calls::events;
+use calls::generator::Profile;
+use calls::select;
+use calls::tally::Tally;
+use calls::{Call, Outcome};
+use definitions::checks::{self, Sequence};
+use definitions::closed;
+use ordered::Original;
+use std::cmp::Reverse;
+use std::collections::BTreeSet;
+use std::path::Path;
+use std::process::ExitCode;
+use std::{env, fs, io};
+
+/// In one sequence of so many, the last call is checked on lent words too, which takes seconds.
+const SEQUENCES_A_SAMPLE: usize = 20;
+
+/// A run of at least so many calls is made of sequences that show every event.
+const LONG_RUN: u64 = 2_000;
+
+fn main() -> io::Result<ExitCode> {
+    let arguments: Vec<String> = env::args().skip(1).collect();
+    let [calls, seed, model, out, length, table, a_file] = &arguments[..] else {
+        eprintln!("wanted: CALLS SEED MODEL OUT LENGTH TABLE CALLS-A-FILE");
+        std::process::exit(2);
+    };
+    let profile = Profile { mean_length: number(length), table: number(table), distinct_heights: false };
+    let mut tally = Tally::default();
+    let sequences = record(number(calls), number(seed), profile, &mut tally);
+    let (modules, index) = modules(&sequences, number(a_file) as usize);
+    closed::write(Path::new(out), Path::new(model), &modules)?;
+    fs::write(Path::new(out).join("events.txt"), index)?;
+    print_tally(&tally, &sequences);
+    let complete = number(calls) < LONG_RUN || tally.problems().is_empty();
+    Ok(if complete { ExitCode::SUCCESS } else { ExitCode::FAILURE })
+}
+
+fn number(text: &str) -> u64 {
+    text.parse().unwrap_or_else(|_| panic!("{text} is not a number"))
+}
+
+fn record(calls: u64, seed: u64, profile: Profile, tally: &mut Tally) -> Vec<Sequence> {
+    let mut sequences: Vec<Sequence> = Vec::new();
+    let each = |before: Option<&Outcome>, call: &Call, outcome: &Outcome| {
+        events::count(tally, before, call, outcome);
+        if matches!(call, Call::Open { .. }) {
+            sequences.push(Sequence { calls: Vec::new(), outcomes: Vec::new() });
+        }
+        let sequence = sequences.last_mut().expect("a run begins with an opening");
+        sequence.calls.push(call.clone());
+        sequence.outcomes.push(outcome.clone());
+    };
+    let mut window = Original::default();
+    if calls < LONG_RUN {
+        compare::run(&mut window, seed, profile, calls, each);
+    } else {
+        let chosen = select::covering(&mut window, seed, profile, calls);
+        select::run(&mut window, seed, profile, &chosen, each);
+    }
+    if calls < LONG_RUN { sequences } else { by_news(sequences) }
+}
+
+/// One module for some sequences, so that a difference names its file and its theorem; then one for each call by words. With them a line
+/// for each module and each event that it shows.
+fn modules(sequences: &[Sequence], a_file: usize) -> (Vec<(String, String)>, String) {
+    let mut index = String::new();
+    let mut modules: Vec<(String, String)> = Vec::new();
+    let mut calls = a_file;
+    for (number, sequence) in sequences.iter().enumerate() {
+        if calls >= a_file {
+            modules.push((format!("Runs{}", modules.len() + 1), String::new()));
+            calls = 0;
+        }
+        let (name, text) = modules.last_mut().expect("a module was begun");
+        *text += &checks::sequence(number, sequence);
+        index.extend(events_of(sequence).iter().map(|event| format!("{name}\t{event}\n")));
+        calls += sequence.calls.len();
+    }
+    let sample = sequences.iter().enumerate().filter(|(number, sequence)| in_sample(*number, sequence));
+    modules.extend(sample.map(|(number, sequence)| (format!("Words{number}"), checks::by_words(number, sequence))));
+    (modules, index)
+}
+
+/// The sequences that show the most new events a call come first.
+fn by_news(sequences: Vec<Sequence>) -> Vec<Sequence> {
+    let with_events = |sequence| (events_of(&sequence), sequence);
+    let mut left: Vec<(BTreeSet<String>, Sequence)> = sequences.into_iter().map(with_events).collect();
+    let mut shown: BTreeSet<String> = BTreeSet::new();
+    let mut ordered = Vec::new();
+    while !left.is_empty() {
+        let news =
+            |(events, sequence): &(BTreeSet<String>, Sequence)| 1_000 * events.difference(&shown).count() / sequence.calls.len();
+        let best = (0..left.len()).max_by_key(|place| (news(&left[*place]), Reverse(*place))).expect("some are left");
+        let (events, sequence) = left.remove(best);
+        shown.extend(events);
+        ordered.push(sequence);
+    }
+    ordered
+}
+
+fn events_of(sequence: &Sequence) -> BTreeSet<String> {
+    let mut tally = Tally::default();
+    let befores = [None].into_iter().chain(sequence.outcomes.iter().map(Some));
+    for ((before, call), outcome) in befores.zip(&sequence.calls).zip(&sequence.outcomes) {
+        events::count(&mut tally, before, call, outcome);
+    }
+    tally.happened()
+}
+
+fn in_sample(number: usize, sequence: &Sequence) -> bool {
+    number % SEQUENCES_A_SAMPLE == SEQUENCES_A_SAMPLE / 2 && sequence.calls.len() > 1
+}
+
+fn print_tally(tally: &Tally, sequences: &[Sequence]) {
+    for (name, count) in tally.table() {
+        println!("{count:>10}  {name}");
+    }
+    for problem in tally.problems() {
+        println!("{problem}");
+    }
+    let calls: usize = sequences.iter().map(|sequence| sequence.calls.len()).sum();
+    let by_words = sequences.iter().enumerate().filter(|(number, sequence)| in_sample(*number, sequence)).count();
+    println!(
+        "{} sequences, {calls} calls; words at each sequence's end; {by_words} calls on lent words and a lent report",
+        sequences.len()
+    );
+}

@@ -1,0 +1,137 @@
+//! Every change made to the original's text before it is built: the one place that lists them.
+//!
+//! The original is read from KOFUDILE_SOURCE at build time. A substitution whose left side does not
+//! occur exactly as often as stated fails the build.
+
+use std::fs;
+use std::path::Path;
+
+pub const WINDOW: &str = "src--crates--node--src--p2p--download_window.rs.txt";
+pub const POLICY: &str = "src--crates--node--src--p2p--download_window--policy.rs.txt";
+
+pub enum Change {
+    /// Puts a line before the file's first.
+    Prepend(&'static str),
+    /// Replaces `from`, which occurs `times` times.
+    Replace { times: usize, from: &'static str, to: &'static str },
+    /// Replaces the whole body of the function of this name.
+    Body { function: &'static str, to: &'static str },
+}
+
+pub struct Substitution {
+    pub file: &'static str,
+    pub change: Change,
+    pub reason: &'static str,
+}
+
+pub const SUBSTITUTIONS: &[Substitution] = &[
+    Substitution {
+        file: WINDOW,
+        change: Change::Prepend(
+            "use super::shims::{bitcoin_rs_consensus, bitcoin_rs_execution, bitcoin_rs_wire, hashbrown, metrics, smallvec, tracing};",
+        ),
+        reason: "these crates are not available: the file's own `use` lines find our shims under the same names",
+    },
+    Substitution {
+        file: POLICY,
+        change: Change::Prepend(
+            "use super::super::shims::{bitcoin, bitcoin_rs_consensus, bitcoin_rs_execution, bitcoin_rs_wire};",
+        ),
+        reason: "as above",
+    },
+    Substitution {
+        file: WINDOW,
+        change: Change::Replace { times: 1, from: "crate::p2p", to: "super::shims::p2p" },
+        reason: "the stager lives in the node's crate, which is not here; ours hands in what 01 says is handed in",
+    },
+    Substitution {
+        file: WINDOW,
+        change: Change::Replace {
+            times: 1,
+            from: "mod policy;",
+            to: "mod policy { include!(concat!(env!(\"OUT_DIR\"), \"/policy.rs\")); }",
+        },
+        reason: "the file is included from the build's folder, so the module needs its place said",
+    },
+    Substitution {
+        file: WINDOW,
+        change: Change::Replace {
+            times: 1,
+            from: "#[cfg(test)]\nmod tests;",
+            to: "pub(crate) mod driver { include!(concat!(env!(\"CARGO_MANIFEST_DIR\"), \"/../driver.rs\")); }",
+        },
+        reason: "a child module may read private fields: the driver stands where the tests did",
+    },
+    Substitution {
+        file: WINDOW,
+        change: Change::Replace { times: 1, from: "sort_unstable_by_key", to: "sort_by_key" },
+        reason: "01: the oracle uses a stable sort, so that the lower hash wins among equal heights",
+    },
+    Substitution {
+        file: WINDOW,
+        change: Change::Replace { times: 1, from: "PartialEq, Eq, Hash)]", to: "PartialEq, Eq, Hash, PartialOrd, Ord)]" },
+        reason: "the staller key is a map's key, and 01's ordered maps need an order on it",
+    },
+    Substitution {
+        file: WINDOW,
+        change: Change::Body { function: "staged_byte_headroom", to: "{ stager.byte_headroom() }" },
+        reason: "01: the staged byte headroom is handed in; the original's formula reads the stager, which is left out",
+    },
+    Substitution {
+        file: WINDOW,
+        change: Change::Body { function: "staged_count_headroom", to: "{ stager.count_headroom() }" },
+        reason: "01: the staged count headroom is handed in; the formula cannot make every number (it is tied to a setting)",
+    },
+];
+
+/// Where the text of a function's body lies, braces included.
+pub fn body_of(text: &str, function: &str) -> Result<std::ops::Range<usize>, String> {
+    let heads: Vec<usize> = ["(", "<"]
+        .iter()
+        .flat_map(|open| text.match_indices(&format!("fn {function}{open}")).map(|(at, _)| at).collect::<Vec<_>>())
+        .collect();
+    let [head] = heads[..] else {
+        return Err(format!("function {function} occurs {} times", heads.len()));
+    };
+    let open = text[head..].find('{').ok_or(format!("function {function} has no body"))? + head;
+    let mut depth = 0_usize;
+    for (at, byte) in text[open..].bytes().enumerate() {
+        match byte {
+            b'{' => depth += 1,
+            b'}' => depth -= 1,
+            _ => continue,
+        }
+        if depth == 0 {
+            return Ok(open..open + at + 1);
+        }
+    }
+    Err(format!("function {function} does not end"))
+}
+
+fn apply(text: &str, change: &Change) -> Result<String, String> {
+    match change {
+        Change::Prepend(line) => Ok(format!("{line}\n{text}")),
+        Change::Replace { times, from, to } => {
+            let found = text.matches(from).count();
+            if found != *times {
+                return Err(format!("{from:?} occurs {found} times, not {times}"));
+            }
+            Ok(text.replace(from, to))
+        }
+        Change::Body { function, to } => {
+            let body = body_of(text, function)?;
+            Ok(format!("{}{to}{}", &text[..body.start], &text[body.end..]))
+        }
+    }
+}
+
+/// The text of one file of the original after its substitutions.
+pub fn substituted(folder: &Path, file: &str) -> Result<String, String> {
+    let path = folder.join(file);
+    let mut text = fs::read_to_string(&path).map_err(|error| format!("{}: {error}", path.display()))?;
+    for substitution in SUBSTITUTIONS.iter().filter(|substitution| substitution.file == file) {
+        text = apply(&text, &substitution.change)
+            .map_err(|problem| format!("{file}: {problem} (substitution: {})", substitution.reason))?;
+    }
+    Ok(text)
+}
