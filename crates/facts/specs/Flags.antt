@@ -12,6 +12,7 @@ use lib.Dec.{eqb, ltb, leb}
 use borrow.Author.Tests.{eqb-true, leb-true, ltb-true, eq-eqb, le-leb, lt-ltb}
 use Rattle.model.specs.Lists.{all, every}
 use Rattle.laws.specs.Numbers.{and-left, and-right, and-both}
+use Rattle.laws.specs.Every.{hold}
 
 -- two flags are equal where each is true when the other is
 pub same : (a b : Bool) → (a ≡ true → b ≡ true) → (b ≡ true → a ≡ true) → a ≡ b
@@ -39,13 +40,7 @@ unfolding fold every
 fold-every [] = refl
 fold-every (b ∷ bs) = row-every b bs
 
--- each of some tests that all hold
-pub hold : (bs : List Bool) → every bs ≡ true → (i : ℕ) → getD bs i true ≡ true
-unfolding every
-hold [] e i = refl
-hold (b ∷ bs) e zero = and-left b (every bs) e
-hold (b ∷ bs) e (suc i) = hold bs (and-right b (every bs) e) i
-
+-- each of a row that holds
 pub hold-row : (bs : List Bool) → fold bs ≡ true → (i : ℕ) → getD bs i true ≡ true
 hold-row bs e = hold bs (sym (fold-every bs) ∙ e)
 

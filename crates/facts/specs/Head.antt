@@ -13,7 +13,8 @@ use Rattle.model.specs.Numbers.{max-clock, max-height, min-estimate, max-estima
 use Rattle.model.specs.Lists.{all, every}
 use Rattle.model.specs.Layout.{Table, is-0, word, words-at, decode, settings-of, counts-ok, settings-ok, small-ok, stall-ok, stuck-ok, cold-ok, cold-by, hedged-ok, observation-ok, observation-by}
 use Rattle.model.specs.Layout as layout
-use Rattle.facts.specs.Flags.{fold, fold-every, hold, hold-row, all-snoc}
+use Rattle.facts.specs.Flags.{fold, fold-every, hold-row, all-snoc}
+use Rattle.laws.specs.Every.{hold}
 use Rattle.facts.specs.Words.{zeros, at, clock, latest, since-fits, probe-fits, later-fits, head-fits}
 use Rattle.laws.specs.Numbers.{and-left}
 

@@ -7,7 +7,8 @@ use Rattle.model.specs.Numbers.{max-seat}
 use Rattle.model.specs.Lists.{all}
 use Rattle.model.specs.Records.{sum}
 use Rattle.model.specs.Layout.{Table, word, live, is-0, time-ok, counts-ok, settings-ok, settings-of, small-ok, stall-ok, stuck-ok, cold-ok, hedged-ok, observation-ok, probe-ok, zeros, head-ok, is-blank, entry-ok, rising, starts-ok, tables-ok, records-ok, valid}
-use Rattle.facts.specs.Flags.{Says, hold, more, none}
+use Rattle.facts.specs.Flags.{Says, more, none}
+use Rattle.laws.specs.Every.{hold}
 
 pub record Sound (t : Table) : Type 0 where
   pub counts : counts-ok t ≡ true

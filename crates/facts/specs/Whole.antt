@@ -18,7 +18,8 @@ use Rattle.model.specs.Layout.{Table, is-0, is-blank, rows, decode, word, live,
 use Rattle.model.specs.Layout as layout
 use Rattle.model.specs.Refusals.{is-long}
 use Rattle.laws.specs.Numbers.{both, and-left, and-right, and-both}
-use Rattle.facts.specs.Flags.{same, Says, says-iff, says-is, says-same, says-eq, fold, fold-every, hold, hold-row, more, none, all-below, all-at, all-each}
+use Rattle.facts.specs.Flags.{same, Says, says-iff, says-is, says-same, says-eq, fold, fold-every, hold-row, more, none, all-below, all-at, all-each}
+use Rattle.laws.specs.Every.{hold}
 use Rattle.facts.specs.Words.{at, count, clock, latest, total, start, cooling, racer, zeros, blank-at, tails-zero, unused-zero, fields-fit, rises, record-fits, records-fit, sum-of, total-fits, oldest-of, start-by, seat-fits, seats-fit, probe-fits, later, later-fits, head-fits, conditions, fits}
 use Rattle.facts.specs.Head.{word-at, part, counts-count}
 use Rattle.facts.specs.Lists.{says-part, says-first, says-rest, blank-is}
