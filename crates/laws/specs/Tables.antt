@@ -3,12 +3,14 @@ use mathlib.Core.Path.{_≡_, refl, sym, ap, _∙_}
 use mathlib.Core.List.{List, [], _∷_, _++_, map, append-assoc}
 use Prim.Native.Nat.{ℕ, zero, suc, _+_, _-_, _*_, _≤_, _<_}
 use native.Mathlib.Omega.{arith}
-use lib.ListN.{length, take, drop, getD, length-append, length-drop, length-map, take-append-drop, replicate, List·getD-append}
+use lib.ListN.{length, take, drop, getD, length-append, length-drop, length-map, take-append-drop, replicate, List·getD-append, set}
 use lib.Seq.{drop-drop, take-add, length-take-le, getD-take, getD-drop, take-at, drop-at, drop-append-le, take-append-add, drop-append-add, getD-append-add}
 use Rattle.column.proofs.Parts.{put, put-long, put-part, put-before, put-after, put-lower, put-higher, take-drop}
 use Rattle.model.specs.Lists.{removeAt, insertAt, inserted, keepBy, keptBy, pad}
 use Rattle.model.specs.Hash.{hashes-words}
-use Rattle.model.specs.Window.{Window, with-clock, with-mean, with-frontier, with-fanout, with-pace, with-preferred, with-attempted, with-stall, with-stuck, with-cold, with-hedged, with-observation, with-probe}
+use Rattle.model.specs.Seats.{oldest, start-reset, body-reset, reset-owner-queue-start, keep-seats}
+use Rattle.model.specs.LettingGo.{flagged}
+use Rattle.model.specs.Window.{Window, queue, with-queue, with-clock, with-mean, with-frontier, with-fanout, with-pace, with-preferred, with-attempted, with-stall, with-stuck, with-cold, with-hedged, with-observation, with-probe}
 use Rattle.model.specs.Layout.{Table, blank, entry-at, rows, decode, field, columns, flat, word, format, table, head-words, counts-words, settings-words, small-words, flag-word, source-word, stall-words, stuck-words, cold-words, hedged-words, observation-words, probe-words, planned-words}
 use Rattle.model.specs.declared.Entry.{Entry}
 use Rattle.model.specs.declared.Hash.{Hash}
@@ -137,6 +139,17 @@ replaced k m l = take k l ++ (m ++ drop (k + length m) l)
 -- the head's words from k on
 unfoldable pub with-words : ℕ → List ℕ → Table → Table
 with-words k m t = with-head (replaced k m (t .head)) t
+
+-- the owner's start and last body after its entry asked at `gone` went, by the oldest that is left
+unfoldable pub seat-reset : ℕ → ℕ → ℕ → ℕ → Table → Table
+seat-reset owner gone now old t =
+    with-bodies (set (t .bodies) owner (body-reset old (getD (t .bodies) owner 0)))
+    (with-starts (set (t .starts) owner (start-reset now (suc gone) old (getD (t .starts) owner 0))) t)
+
+-- starts and last bodies of the seats that have no flag dropped
+unfoldable pub kept-seats : List ℕ → Table → Table
+kept-seats flags t =
+    with-bodies (keep-seats (flagged flags) 0 (t .bodies)) (with-starts (keep-seats (flagged flags) 0 (t .starts)) t)
 
 -- ---- lists of the right lengths
 
@@ -662,3 +675,25 @@ module _ (k : ℕ) (m : List ℕ) (t : Table) (s : Sized t) (fits : k + length m
     racers = s .racers;
     head = simp (length-append, length-drop, before) (omega (arith, s .head));
   }
+
+-- ---- the seats of a window's table
+
+module _ (w : Window) where
+  pub table-seats : (ss bs : List ℕ) → with-bodies bs (with-starts ss (table w)) ≡ table (with-queue (queue (w .queue .total) (w .queue .pending) ss bs) w)
+  unfolding table head-words counts-words small-words with-starts with-bodies
+  table-seats ss bs = refl
+
+  -- `reset_owner_queue_start`
+  pub table-reset : (owner gone now old : ℕ) → old ≡ oldest owner (w .queue .pending)
+      → seat-reset owner gone now old (table w) ≡ table (with-queue (reset-owner-queue-start owner gone now (w .queue)) w)
+  unfolding table head-words counts-words small-words with-starts with-bodies seat-reset reset-owner-queue-start
+  table-reset owner gone now old e =
+      ap (λ (o : ℕ). table (with-queue (queue (w .queue .total) (w .queue .pending)
+      (set (w .queue .starts) owner (start-reset now (suc gone) o (getD (w .queue .starts) owner 0)))
+      (set (w .queue .bodies) owner (body-reset o (getD (w .queue .bodies) owner 0)))) w)) e
+
+  -- starts and last bodies of `seats-kept`
+  pub table-kept-seats : (flags : List ℕ) → kept-seats flags (table w)
+      ≡ table (with-queue (queue (w .queue .total) (w .queue .pending) (keep-seats (flagged flags) 0 (w .queue .starts)) (keep-seats (flagged flags) 0 (w .queue .bodies))) w)
+  unfolding table head-words counts-words small-words with-starts with-bodies kept-seats
+  table-kept-seats flags = refl
