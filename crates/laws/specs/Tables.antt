@@ -34,89 +34,29 @@ use Rattle.laws.specs.Rows.{Upto, field-blank, lift, entries-ext, col-ro
 
 -- ---- one part replaced, the others as they were
 
+abbrev pub parts : List Entry → List ℕ → List ℕ → List ℕ → List ℕ → List ℕ → List ℕ → List ℕ → Table
+parts es sp st bo ke co ra he = record { entries = es; spare = sp; starts = st; bodies = bo; keys = ke; cooling = co; racers = ra; head = he }
+
 unfoldable pub with-entries : List Entry → Table → Table
-with-entries l t = record {
-  entries = l;
-  spare = t .spare;
-  starts = t .starts;
-  bodies = t .bodies;
-  keys = t .keys;
-  cooling = t .cooling;
-  racers = t .racers;
-  head = t .head;
-}
+with-entries l t = parts l (t .spare) (t .starts) (t .bodies) (t .keys) (t .cooling) (t .racers) (t .head)
 
 unfoldable pub with-starts : List ℕ → Table → Table
-with-starts l t = record {
-  entries = t .entries;
-  spare = t .spare;
-  starts = l;
-  bodies = t .bodies;
-  keys = t .keys;
-  cooling = t .cooling;
-  racers = t .racers;
-  head = t .head;
-}
+with-starts l t = parts (t .entries) (t .spare) l (t .bodies) (t .keys) (t .cooling) (t .racers) (t .head)
 
 unfoldable pub with-bodies : List ℕ → Table → Table
-with-bodies l t = record {
-  entries = t .entries;
-  spare = t .spare;
-  starts = t .starts;
-  bodies = l;
-  keys = t .keys;
-  cooling = t .cooling;
-  racers = t .racers;
-  head = t .head;
-}
+with-bodies l t = parts (t .entries) (t .spare) (t .starts) l (t .keys) (t .cooling) (t .racers) (t .head)
 
 unfoldable pub with-keys : List ℕ → Table → Table
-with-keys l t = record {
-  entries = t .entries;
-  spare = t .spare;
-  starts = t .starts;
-  bodies = t .bodies;
-  keys = l;
-  cooling = t .cooling;
-  racers = t .racers;
-  head = t .head;
-}
+with-keys l t = parts (t .entries) (t .spare) (t .starts) (t .bodies) l (t .cooling) (t .racers) (t .head)
 
 unfoldable pub with-cooling : List ℕ → Table → Table
-with-cooling l t = record {
-  entries = t .entries;
-  spare = t .spare;
-  starts = t .starts;
-  bodies = t .bodies;
-  keys = t .keys;
-  cooling = l;
-  racers = t .racers;
-  head = t .head;
-}
+with-cooling l t = parts (t .entries) (t .spare) (t .starts) (t .bodies) (t .keys) l (t .racers) (t .head)
 
 unfoldable pub with-racers : List ℕ → Table → Table
-with-racers l t = record {
-  entries = t .entries;
-  spare = t .spare;
-  starts = t .starts;
-  bodies = t .bodies;
-  keys = t .keys;
-  cooling = t .cooling;
-  racers = l;
-  head = t .head;
-}
+with-racers l t = parts (t .entries) (t .spare) (t .starts) (t .bodies) (t .keys) (t .cooling) l (t .head)
 
 unfoldable pub with-head : List ℕ → Table → Table
-with-head l t = record {
-  entries = t .entries;
-  spare = t .spare;
-  starts = t .starts;
-  bodies = t .bodies;
-  keys = t .keys;
-  cooling = t .cooling;
-  racers = t .racers;
-  head = l;
-}
+with-head l t = parts (t .entries) (t .spare) (t .starts) (t .bodies) (t .keys) (t .cooling) (t .racers) l
 
 -- ---- the operations
 
@@ -267,6 +207,10 @@ pub word-decode : (k : ℕ) (ws : List ℕ) → word k (decode ws) ≡ getD ws (
 unfolding word decode
 word-decode k ws = getD-drop 3584 ws k 0
 
+-- the same, as code counts it from a place k
+pub word-offset : (k j : ℕ) (ws : List ℕ) → getD ws (3584 + k + j) 0 ≡ word (k + j) (decode ws)
+word-offset k j ws = let e : 3584 + k + j ≡ 3584 + (k + j) = omega arith in ap (λ (n : ℕ). getD ws n 0) e ∙ sym (word-decode (k + j) ws)
+
 -- a word of a table of 256
 pub seat-word : (a s : ℕ) (ws : List ℕ) → s < 256 → getD (take 256 (drop a ws)) s 0 ≡ getD ws (a + s) 0
 seat-word a s ws h = getD-take 256 (drop a ws) s 0 h ∙ getD-drop a ws s 0
@@ -332,68 +276,38 @@ module _ (w y : List ℕ) (n : length w ≡ 4096) where
 
     pub decode-starts : decode (put 2304 256 w y) ≡ with-starts y (decode w)
     unfolding decode with-starts
-    decode-starts = λ i. record {
-      entries = same-rows 2304 256 (omega arith) (omega arith) long i;
-      spare = lower 2304 2048 (omega arith) (omega arith) i;
-      starts = put-part 2304 256 w y (omega arith) long i;
-      bodies = higher 2304 2560 (omega arith) (omega arith) i;
-      keys = higher 2304 2816 (omega arith) (omega arith) i;
-      cooling = higher 2304 3072 (omega arith) (omega arith) i;
-      racers = higher 2304 3328 (omega arith) (omega arith) i;
-      head = put-after 2304 256 w y (omega arith) long 3584 (omega arith) i;
-    }
+    decode-starts = λ i. parts (same-rows 2304 256 (omega arith) (omega arith) long i)
+        (lower 2304 2048 (omega arith) (omega arith) i) (put-part 2304 256 w y (omega arith) long i) (higher 2304 2560 (omega arith) (omega arith) i)
+        (higher 2304 2816 (omega arith) (omega arith) i) (higher 2304 3072 (omega arith) (omega arith) i) (higher 2304 3328 (omega arith) (omega arith) i)
+        (put-after 2304 256 w y (omega arith) long 3584 (omega arith) i)
 
     pub decode-bodies : decode (put 2560 256 w y) ≡ with-bodies y (decode w)
     unfolding decode with-bodies
-    decode-bodies = λ i. record {
-      entries = same-rows 2560 256 (omega arith) (omega arith) long i;
-      spare = lower 2560 2048 (omega arith) (omega arith) i;
-      starts = lower 2560 2304 (omega arith) (omega arith) i;
-      bodies = put-part 2560 256 w y (omega arith) long i;
-      keys = higher 2560 2816 (omega arith) (omega arith) i;
-      cooling = higher 2560 3072 (omega arith) (omega arith) i;
-      racers = higher 2560 3328 (omega arith) (omega arith) i;
-      head = put-after 2560 256 w y (omega arith) long 3584 (omega arith) i;
-    }
+    decode-bodies = λ i. parts (same-rows 2560 256 (omega arith) (omega arith) long i)
+        (lower 2560 2048 (omega arith) (omega arith) i) (lower 2560 2304 (omega arith) (omega arith) i) (put-part 2560 256 w y (omega arith) long i)
+        (higher 2560 2816 (omega arith) (omega arith) i) (higher 2560 3072 (omega arith) (omega arith) i) (higher 2560 3328 (omega arith) (omega arith) i)
+        (put-after 2560 256 w y (omega arith) long 3584 (omega arith) i)
 
     pub decode-keys : decode (put 2816 256 w y) ≡ with-keys y (decode w)
     unfolding decode with-keys
-    decode-keys = λ i. record {
-      entries = same-rows 2816 256 (omega arith) (omega arith) long i;
-      spare = lower 2816 2048 (omega arith) (omega arith) i;
-      starts = lower 2816 2304 (omega arith) (omega arith) i;
-      bodies = lower 2816 2560 (omega arith) (omega arith) i;
-      keys = put-part 2816 256 w y (omega arith) long i;
-      cooling = higher 2816 3072 (omega arith) (omega arith) i;
-      racers = higher 2816 3328 (omega arith) (omega arith) i;
-      head = put-after 2816 256 w y (omega arith) long 3584 (omega arith) i;
-    }
+    decode-keys = λ i. parts (same-rows 2816 256 (omega arith) (omega arith) long i)
+        (lower 2816 2048 (omega arith) (omega arith) i) (lower 2816 2304 (omega arith) (omega arith) i) (lower 2816 2560 (omega arith) (omega arith) i)
+        (put-part 2816 256 w y (omega arith) long i) (higher 2816 3072 (omega arith) (omega arith) i) (higher 2816 3328 (omega arith) (omega arith) i)
+        (put-after 2816 256 w y (omega arith) long 3584 (omega arith) i)
 
     pub decode-cooling : decode (put 3072 256 w y) ≡ with-cooling y (decode w)
     unfolding decode with-cooling
-    decode-cooling = λ i. record {
-      entries = same-rows 3072 256 (omega arith) (omega arith) long i;
-      spare = lower 3072 2048 (omega arith) (omega arith) i;
-      starts = lower 3072 2304 (omega arith) (omega arith) i;
-      bodies = lower 3072 2560 (omega arith) (omega arith) i;
-      keys = lower 3072 2816 (omega arith) (omega arith) i;
-      cooling = put-part 3072 256 w y (omega arith) long i;
-      racers = higher 3072 3328 (omega arith) (omega arith) i;
-      head = put-after 3072 256 w y (omega arith) long 3584 (omega arith) i;
-    }
+    decode-cooling = λ i. parts (same-rows 3072 256 (omega arith) (omega arith) long i)
+        (lower 3072 2048 (omega arith) (omega arith) i) (lower 3072 2304 (omega arith) (omega arith) i) (lower 3072 2560 (omega arith) (omega arith) i)
+        (lower 3072 2816 (omega arith) (omega arith) i) (put-part 3072 256 w y (omega arith) long i) (higher 3072 3328 (omega arith) (omega arith) i)
+        (put-after 3072 256 w y (omega arith) long 3584 (omega arith) i)
 
     pub decode-racers : decode (put 3328 256 w y) ≡ with-racers y (decode w)
     unfolding decode with-racers
-    decode-racers = λ i. record {
-      entries = same-rows 3328 256 (omega arith) (omega arith) long i;
-      spare = lower 3328 2048 (omega arith) (omega arith) i;
-      starts = lower 3328 2304 (omega arith) (omega arith) i;
-      bodies = lower 3328 2560 (omega arith) (omega arith) i;
-      keys = lower 3328 2816 (omega arith) (omega arith) i;
-      cooling = lower 3328 3072 (omega arith) (omega arith) i;
-      racers = put-part 3328 256 w y (omega arith) long i;
-      head = put-after 3328 256 w y (omega arith) long 3584 (omega arith) i;
-    }
+    decode-racers = λ i. parts (same-rows 3328 256 (omega arith) (omega arith) long i)
+        (lower 3328 2048 (omega arith) (omega arith) i) (lower 3328 2304 (omega arith) (omega arith) i) (lower 3328 2560 (omega arith) (omega arith) i)
+        (lower 3328 2816 (omega arith) (omega arith) i) (lower 3328 3072 (omega arith) (omega arith) i) (put-part 3328 256 w y (omega arith) long i)
+        (put-after 3328 256 w y (omega arith) long 3584 (omega arith) i)
 
   -- the head's part, in its words
   drop-put : (a k m : ℕ) → a + k + m ≤ length w → length y ≡ m → drop a (put (a + k) m w y) ≡ replaced k y (drop a w)
