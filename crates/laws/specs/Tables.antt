@@ -3,7 +3,7 @@ use mathlib.Core.Path.{_≡_, refl, sym, ap, _∙_}
 use mathlib.Core.List.{List, [], _∷_, _++_, map, append-assoc}
 use Prim.Native.Nat.{ℕ, zero, suc, _+_, _-_, _*_, _≤_, _<_}
 use native.Mathlib.Omega.{arith}
-use lib.ListN.{length, take, drop, getD, length-append, length-drop, length-map, take-append-drop, replicate, List·getD-append, set}
+use lib.ListN.{length, take, drop, getD, length-append, length-drop, length-map, take-append-drop, replicate, List·getD-append, set, length-replicate, replicate-append-replicate}
 use lib.Seq.{drop-drop, take-add, length-take-le, getD-take, getD-drop, take-at, drop-at, drop-append-le, take-append-add, drop-append-add, getD-append-add}
 use Rattle.column.proofs.Parts.{put, put-long, put-part, put-before, put-after, put-lower, put-higher, take-drop}
 use Rattle.model.specs.Lists.{removeAt, insertAt, inserted, keepBy, keptBy, pad}
@@ -611,3 +611,45 @@ module _ (w : Window) where
       ≡ table (with-queue (queue (w .queue .total) (w .queue .pending) (keep-seats (flagged flags) 0 (w .queue .starts)) (keep-seats (flagged flags) 0 (w .queue .bodies))) w)
   unfolding table head-words counts-words small-words with-starts with-bodies kept-seats
   table-kept-seats flags = refl
+
+-- ---- words of zeros, as an opening has them first
+
+abbrev pub zeros : ℕ → List ℕ
+zeros n = replicate n 0
+
+getD-zeros : (n i : ℕ) → getD (zeros n) i 0 ≡ zero
+getD-zeros zero i = refl
+getD-zeros (suc n) zero = refl
+getD-zeros (suc n) (suc i) = getD-zeros n i
+
+entry-zeros : (n : ℕ) → entry-at (zeros n) ≡ blank
+unfolding entry-at
+entry-zeros n =
+    let z : (i : ℕ) → getD (zeros n) i 0 ≡ zero = λ i. getD-zeros n i in
+    λ i. record {
+      hash = record { a = z 0 i; b = z 256 i; c = z 512 i; d = z 768 i };
+      owner = z 1024 i;
+      time = z 1280 i;
+      height = z 1536 i;
+      estimate = z 1792 i;
+    }
+
+rows-zeros : (m n : ℕ) → rows m (zeros n) ≡ replicate m blank
+unfolding rows
+rows-zeros zero n = refl
+rows-zeros (suc m) zero = λ i. entry-zeros 0 i ∷ rows-zeros m 0 i
+rows-zeros (suc m) (suc n) = λ i. entry-zeros (suc n) i ∷ rows-zeros m n i
+
+drop-zeros : (m n k : ℕ) → m + k ≡ n → drop m (zeros n) ≡ zeros k
+drop-zeros zero n k e = let same : n ≡ k = omega arith in ap zeros same
+drop-zeros (suc m) zero k e = absurd (omega arith)
+drop-zeros (suc m) (suc n) k e = drop-zeros m n k (omega arith)
+
+part-zeros : (a k : ℕ) → a + (256 + k) ≡ 4096 → take 256 (drop a (zeros 4096)) ≡ zeros 256
+part-zeros a k e =
+    ap (take 256) (drop-zeros a 4096 (256 + k) e ∙ sym (replicate-append-replicate 256 k 0)) ∙ take-at (zeros 256) (zeros k) 256 (length-replicate {A = ℕ} 256 0)
+
+pub decode-zeros : decode (zeros 4096) ≡ parts (replicate 256 blank) (zeros 256) (zeros 256) (zeros 256) (zeros 256) (zeros 256) (zeros 256) (zeros 512)
+unfolding decode
+decode-zeros = λ i. parts (rows-zeros 256 4096 i) (part-zeros 2048 1792 refl i) (part-zeros 2304 1536 refl i) (part-zeros 2560 1280 refl i)
+    (part-zeros 2816 1024 refl i) (part-zeros 3072 768 refl i) (part-zeros 3328 512 refl i) (drop-zeros 3584 4096 512 refl i)
