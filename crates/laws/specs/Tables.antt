@@ -3,12 +3,14 @@ use mathlib.Core.Path.{_≡_, refl, sym, ap, _∙_}
 use mathlib.Core.List.{List, [], _∷_, _++_, map, append-assoc}
 use Prim.Native.Nat.{ℕ, zero, suc, _+_, _-_, _*_, _≤_, _<_}
 use native.Mathlib.Omega.{arith}
-use lib.ListN.{length, take, drop, getD, length-append, length-drop, length-map, take-append-drop, replicate, List·getD-append}
+use lib.ListN.{length, take, drop, getD, length-append, length-drop, length-map, take-append-drop, replicate, List·getD-append, set, length-replicate, replicate-append-replicate}
 use lib.Seq.{drop-drop, take-add, length-take-le, getD-take, getD-drop, take-at, drop-at, drop-append-le, take-append-add, drop-append-add, getD-append-add}
 use Rattle.column.proofs.Parts.{put, put-long, put-part, put-before, put-after, put-lower, put-higher, take-drop}
 use Rattle.model.specs.Lists.{removeAt, insertAt, inserted, keepBy, keptBy, pad}
 use Rattle.model.specs.Hash.{hashes-words}
-use Rattle.model.specs.Window.{Window, with-clock, with-mean, with-frontier, with-fanout, with-pace, with-preferred, with-attempted, with-stall, with-stuck, with-cold, with-hedged, with-observation, with-probe}
+use Rattle.model.specs.Seats.{oldest, start-reset, body-reset, reset-owner-queue-start, keep-seats}
+use Rattle.model.specs.LettingGo.{flagged}
+use Rattle.model.specs.Window.{Window, queue, with-queue, with-clock, with-mean, with-frontier, with-fanout, with-pace, with-preferred, with-attempted, with-stall, with-stuck, with-cold, with-hedged, with-observation, with-probe}
 use Rattle.model.specs.Layout.{Table, blank, entry-at, rows, decode, field, columns, flat, word, format, table, head-words, counts-words, settings-words, small-words, flag-word, source-word, stall-words, stuck-words, cold-words, hedged-words, observation-words, probe-words, planned-words}
 use Rattle.model.specs.declared.Entry.{Entry}
 use Rattle.model.specs.declared.Hash.{Hash}
@@ -32,89 +34,29 @@ use Rattle.laws.specs.Rows.{Upto, field-blank, lift, entries-ext, col-ro
 
 -- ---- one part replaced, the others as they were
 
+abbrev pub parts : List Entry → List ℕ → List ℕ → List ℕ → List ℕ → List ℕ → List ℕ → List ℕ → Table
+parts es sp st bo ke co ra he = record { entries = es; spare = sp; starts = st; bodies = bo; keys = ke; cooling = co; racers = ra; head = he }
+
 unfoldable pub with-entries : List Entry → Table → Table
-with-entries l t = record {
-  entries = l;
-  spare = t .spare;
-  starts = t .starts;
-  bodies = t .bodies;
-  keys = t .keys;
-  cooling = t .cooling;
-  racers = t .racers;
-  head = t .head;
-}
+with-entries l t = parts l (t .spare) (t .starts) (t .bodies) (t .keys) (t .cooling) (t .racers) (t .head)
 
 unfoldable pub with-starts : List ℕ → Table → Table
-with-starts l t = record {
-  entries = t .entries;
-  spare = t .spare;
-  starts = l;
-  bodies = t .bodies;
-  keys = t .keys;
-  cooling = t .cooling;
-  racers = t .racers;
-  head = t .head;
-}
+with-starts l t = parts (t .entries) (t .spare) l (t .bodies) (t .keys) (t .cooling) (t .racers) (t .head)
 
 unfoldable pub with-bodies : List ℕ → Table → Table
-with-bodies l t = record {
-  entries = t .entries;
-  spare = t .spare;
-  starts = t .starts;
-  bodies = l;
-  keys = t .keys;
-  cooling = t .cooling;
-  racers = t .racers;
-  head = t .head;
-}
+with-bodies l t = parts (t .entries) (t .spare) (t .starts) l (t .keys) (t .cooling) (t .racers) (t .head)
 
 unfoldable pub with-keys : List ℕ → Table → Table
-with-keys l t = record {
-  entries = t .entries;
-  spare = t .spare;
-  starts = t .starts;
-  bodies = t .bodies;
-  keys = l;
-  cooling = t .cooling;
-  racers = t .racers;
-  head = t .head;
-}
+with-keys l t = parts (t .entries) (t .spare) (t .starts) (t .bodies) l (t .cooling) (t .racers) (t .head)
 
 unfoldable pub with-cooling : List ℕ → Table → Table
-with-cooling l t = record {
-  entries = t .entries;
-  spare = t .spare;
-  starts = t .starts;
-  bodies = t .bodies;
-  keys = t .keys;
-  cooling = l;
-  racers = t .racers;
-  head = t .head;
-}
+with-cooling l t = parts (t .entries) (t .spare) (t .starts) (t .bodies) (t .keys) l (t .racers) (t .head)
 
 unfoldable pub with-racers : List ℕ → Table → Table
-with-racers l t = record {
-  entries = t .entries;
-  spare = t .spare;
-  starts = t .starts;
-  bodies = t .bodies;
-  keys = t .keys;
-  cooling = t .cooling;
-  racers = l;
-  head = t .head;
-}
+with-racers l t = parts (t .entries) (t .spare) (t .starts) (t .bodies) (t .keys) (t .cooling) l (t .head)
 
 unfoldable pub with-head : List ℕ → Table → Table
-with-head l t = record {
-  entries = t .entries;
-  spare = t .spare;
-  starts = t .starts;
-  bodies = t .bodies;
-  keys = t .keys;
-  cooling = t .cooling;
-  racers = t .racers;
-  head = l;
-}
+with-head l t = parts (t .entries) (t .spare) (t .starts) (t .bodies) (t .keys) (t .cooling) (t .racers) l
 
 -- ---- the operations
 
@@ -137,6 +79,17 @@ replaced k m l = take k l ++ (m ++ drop (k + length m) l)
 -- the head's words from k on
 unfoldable pub with-words : ℕ → List ℕ → Table → Table
 with-words k m t = with-head (replaced k m (t .head)) t
+
+-- the owner's start and last body after its entry asked at `gone` went, by the oldest that is left
+unfoldable pub seat-reset : ℕ → ℕ → ℕ → ℕ → Table → Table
+seat-reset owner gone now old t =
+    with-bodies (set (t .bodies) owner (body-reset old (getD (t .bodies) owner 0)))
+    (with-starts (set (t .starts) owner (start-reset now (suc gone) old (getD (t .starts) owner 0))) t)
+
+-- starts and last bodies of the seats that have no flag dropped
+unfoldable pub kept-seats : List ℕ → Table → Table
+kept-seats flags t =
+    with-bodies (keep-seats (flagged flags) 0 (t .bodies)) (with-starts (keep-seats (flagged flags) 0 (t .starts)) t)
 
 -- ---- lists of the right lengths
 
@@ -254,6 +207,10 @@ pub word-decode : (k : ℕ) (ws : List ℕ) → word k (decode ws) ≡ getD ws (
 unfolding word decode
 word-decode k ws = getD-drop 3584 ws k 0
 
+-- the same, as code counts it from a place k
+pub word-offset : (k j : ℕ) (ws : List ℕ) → getD ws (3584 + k + j) 0 ≡ word (k + j) (decode ws)
+word-offset k j ws = let e : 3584 + k + j ≡ 3584 + (k + j) = omega arith in ap (λ (n : ℕ). getD ws n 0) e ∙ sym (word-decode (k + j) ws)
+
 -- a word of a table of 256
 pub seat-word : (a s : ℕ) (ws : List ℕ) → s < 256 → getD (take 256 (drop a ws)) s 0 ≡ getD ws (a + s) 0
 seat-word a s ws h = getD-take 256 (drop a ws) s 0 h ∙ getD-drop a ws s 0
@@ -319,68 +276,38 @@ module _ (w y : List ℕ) (n : length w ≡ 4096) where
 
     pub decode-starts : decode (put 2304 256 w y) ≡ with-starts y (decode w)
     unfolding decode with-starts
-    decode-starts = λ i. record {
-      entries = same-rows 2304 256 (omega arith) (omega arith) long i;
-      spare = lower 2304 2048 (omega arith) (omega arith) i;
-      starts = put-part 2304 256 w y (omega arith) long i;
-      bodies = higher 2304 2560 (omega arith) (omega arith) i;
-      keys = higher 2304 2816 (omega arith) (omega arith) i;
-      cooling = higher 2304 3072 (omega arith) (omega arith) i;
-      racers = higher 2304 3328 (omega arith) (omega arith) i;
-      head = put-after 2304 256 w y (omega arith) long 3584 (omega arith) i;
-    }
+    decode-starts = λ i. parts (same-rows 2304 256 (omega arith) (omega arith) long i)
+        (lower 2304 2048 (omega arith) (omega arith) i) (put-part 2304 256 w y (omega arith) long i) (higher 2304 2560 (omega arith) (omega arith) i)
+        (higher 2304 2816 (omega arith) (omega arith) i) (higher 2304 3072 (omega arith) (omega arith) i) (higher 2304 3328 (omega arith) (omega arith) i)
+        (put-after 2304 256 w y (omega arith) long 3584 (omega arith) i)
 
     pub decode-bodies : decode (put 2560 256 w y) ≡ with-bodies y (decode w)
     unfolding decode with-bodies
-    decode-bodies = λ i. record {
-      entries = same-rows 2560 256 (omega arith) (omega arith) long i;
-      spare = lower 2560 2048 (omega arith) (omega arith) i;
-      starts = lower 2560 2304 (omega arith) (omega arith) i;
-      bodies = put-part 2560 256 w y (omega arith) long i;
-      keys = higher 2560 2816 (omega arith) (omega arith) i;
-      cooling = higher 2560 3072 (omega arith) (omega arith) i;
-      racers = higher 2560 3328 (omega arith) (omega arith) i;
-      head = put-after 2560 256 w y (omega arith) long 3584 (omega arith) i;
-    }
+    decode-bodies = λ i. parts (same-rows 2560 256 (omega arith) (omega arith) long i)
+        (lower 2560 2048 (omega arith) (omega arith) i) (lower 2560 2304 (omega arith) (omega arith) i) (put-part 2560 256 w y (omega arith) long i)
+        (higher 2560 2816 (omega arith) (omega arith) i) (higher 2560 3072 (omega arith) (omega arith) i) (higher 2560 3328 (omega arith) (omega arith) i)
+        (put-after 2560 256 w y (omega arith) long 3584 (omega arith) i)
 
     pub decode-keys : decode (put 2816 256 w y) ≡ with-keys y (decode w)
     unfolding decode with-keys
-    decode-keys = λ i. record {
-      entries = same-rows 2816 256 (omega arith) (omega arith) long i;
-      spare = lower 2816 2048 (omega arith) (omega arith) i;
-      starts = lower 2816 2304 (omega arith) (omega arith) i;
-      bodies = lower 2816 2560 (omega arith) (omega arith) i;
-      keys = put-part 2816 256 w y (omega arith) long i;
-      cooling = higher 2816 3072 (omega arith) (omega arith) i;
-      racers = higher 2816 3328 (omega arith) (omega arith) i;
-      head = put-after 2816 256 w y (omega arith) long 3584 (omega arith) i;
-    }
+    decode-keys = λ i. parts (same-rows 2816 256 (omega arith) (omega arith) long i)
+        (lower 2816 2048 (omega arith) (omega arith) i) (lower 2816 2304 (omega arith) (omega arith) i) (lower 2816 2560 (omega arith) (omega arith) i)
+        (put-part 2816 256 w y (omega arith) long i) (higher 2816 3072 (omega arith) (omega arith) i) (higher 2816 3328 (omega arith) (omega arith) i)
+        (put-after 2816 256 w y (omega arith) long 3584 (omega arith) i)
 
     pub decode-cooling : decode (put 3072 256 w y) ≡ with-cooling y (decode w)
     unfolding decode with-cooling
-    decode-cooling = λ i. record {
-      entries = same-rows 3072 256 (omega arith) (omega arith) long i;
-      spare = lower 3072 2048 (omega arith) (omega arith) i;
-      starts = lower 3072 2304 (omega arith) (omega arith) i;
-      bodies = lower 3072 2560 (omega arith) (omega arith) i;
-      keys = lower 3072 2816 (omega arith) (omega arith) i;
-      cooling = put-part 3072 256 w y (omega arith) long i;
-      racers = higher 3072 3328 (omega arith) (omega arith) i;
-      head = put-after 3072 256 w y (omega arith) long 3584 (omega arith) i;
-    }
+    decode-cooling = λ i. parts (same-rows 3072 256 (omega arith) (omega arith) long i)
+        (lower 3072 2048 (omega arith) (omega arith) i) (lower 3072 2304 (omega arith) (omega arith) i) (lower 3072 2560 (omega arith) (omega arith) i)
+        (lower 3072 2816 (omega arith) (omega arith) i) (put-part 3072 256 w y (omega arith) long i) (higher 3072 3328 (omega arith) (omega arith) i)
+        (put-after 3072 256 w y (omega arith) long 3584 (omega arith) i)
 
     pub decode-racers : decode (put 3328 256 w y) ≡ with-racers y (decode w)
     unfolding decode with-racers
-    decode-racers = λ i. record {
-      entries = same-rows 3328 256 (omega arith) (omega arith) long i;
-      spare = lower 3328 2048 (omega arith) (omega arith) i;
-      starts = lower 3328 2304 (omega arith) (omega arith) i;
-      bodies = lower 3328 2560 (omega arith) (omega arith) i;
-      keys = lower 3328 2816 (omega arith) (omega arith) i;
-      cooling = lower 3328 3072 (omega arith) (omega arith) i;
-      racers = put-part 3328 256 w y (omega arith) long i;
-      head = put-after 3328 256 w y (omega arith) long 3584 (omega arith) i;
-    }
+    decode-racers = λ i. parts (same-rows 3328 256 (omega arith) (omega arith) long i)
+        (lower 3328 2048 (omega arith) (omega arith) i) (lower 3328 2304 (omega arith) (omega arith) i) (lower 3328 2560 (omega arith) (omega arith) i)
+        (lower 3328 2816 (omega arith) (omega arith) i) (lower 3328 3072 (omega arith) (omega arith) i) (put-part 3328 256 w y (omega arith) long i)
+        (put-after 3328 256 w y (omega arith) long 3584 (omega arith) i)
 
   -- the head's part, in its words
   drop-put : (a k m : ℕ) → a + k + m ≤ length w → length y ≡ m → drop a (put (a + k) m w y) ≡ replaced k y (drop a w)
@@ -662,3 +589,67 @@ module _ (k : ℕ) (m : List ℕ) (t : Table) (s : Sized t) (fits : k + length m
     racers = s .racers;
     head = simp (length-append, length-drop, before) (omega (arith, s .head));
   }
+
+-- ---- the seats of a window's table
+
+module _ (w : Window) where
+  pub table-seats : (ss bs : List ℕ) → with-bodies bs (with-starts ss (table w)) ≡ table (with-queue (queue (w .queue .total) (w .queue .pending) ss bs) w)
+  unfolding table head-words counts-words small-words with-starts with-bodies
+  table-seats ss bs = refl
+
+  -- `reset_owner_queue_start`
+  pub table-reset : (owner gone now old : ℕ) → old ≡ oldest owner (w .queue .pending)
+      → seat-reset owner gone now old (table w) ≡ table (with-queue (reset-owner-queue-start owner gone now (w .queue)) w)
+  unfolding table head-words counts-words small-words with-starts with-bodies seat-reset reset-owner-queue-start
+  table-reset owner gone now old e =
+      ap (λ (o : ℕ). table (with-queue (queue (w .queue .total) (w .queue .pending)
+      (set (w .queue .starts) owner (start-reset now (suc gone) o (getD (w .queue .starts) owner 0)))
+      (set (w .queue .bodies) owner (body-reset o (getD (w .queue .bodies) owner 0)))) w)) e
+
+  -- starts and last bodies of `seats-kept`
+  pub table-kept-seats : (flags : List ℕ) → kept-seats flags (table w)
+      ≡ table (with-queue (queue (w .queue .total) (w .queue .pending) (keep-seats (flagged flags) 0 (w .queue .starts)) (keep-seats (flagged flags) 0 (w .queue .bodies))) w)
+  unfolding table head-words counts-words small-words with-starts with-bodies kept-seats
+  table-kept-seats flags = refl
+
+-- ---- words of zeros, as an opening has them first
+
+abbrev pub zeros : ℕ → List ℕ
+zeros n = replicate n 0
+
+getD-zeros : (n i : ℕ) → getD (zeros n) i 0 ≡ zero
+getD-zeros zero i = refl
+getD-zeros (suc n) zero = refl
+getD-zeros (suc n) (suc i) = getD-zeros n i
+
+entry-zeros : (n : ℕ) → entry-at (zeros n) ≡ blank
+unfolding entry-at
+entry-zeros n =
+    let z : (i : ℕ) → getD (zeros n) i 0 ≡ zero = λ i. getD-zeros n i in
+    λ i. record {
+      hash = record { a = z 0 i; b = z 256 i; c = z 512 i; d = z 768 i };
+      owner = z 1024 i;
+      time = z 1280 i;
+      height = z 1536 i;
+      estimate = z 1792 i;
+    }
+
+rows-zeros : (m n : ℕ) → rows m (zeros n) ≡ replicate m blank
+unfolding rows
+rows-zeros zero n = refl
+rows-zeros (suc m) zero = λ i. entry-zeros 0 i ∷ rows-zeros m 0 i
+rows-zeros (suc m) (suc n) = λ i. entry-zeros (suc n) i ∷ rows-zeros m n i
+
+drop-zeros : (m n k : ℕ) → m + k ≡ n → drop m (zeros n) ≡ zeros k
+drop-zeros zero n k e = let same : n ≡ k = omega arith in ap zeros same
+drop-zeros (suc m) zero k e = absurd (omega arith)
+drop-zeros (suc m) (suc n) k e = drop-zeros m n k (omega arith)
+
+part-zeros : (a k : ℕ) → a + (256 + k) ≡ 4096 → take 256 (drop a (zeros 4096)) ≡ zeros 256
+part-zeros a k e =
+    ap (take 256) (drop-zeros a 4096 (256 + k) e ∙ sym (replicate-append-replicate 256 k 0)) ∙ take-at (zeros 256) (zeros k) 256 (length-replicate {A = ℕ} 256 0)
+
+pub decode-zeros : decode (zeros 4096) ≡ parts (replicate 256 blank) (zeros 256) (zeros 256) (zeros 256) (zeros 256) (zeros 256) (zeros 256) (zeros 512)
+unfolding decode
+decode-zeros = λ i. parts (rows-zeros 256 4096 i) (part-zeros 2048 1792 refl i) (part-zeros 2304 1536 refl i) (part-zeros 2560 1280 refl i)
+    (part-zeros 2816 1024 refl i) (part-zeros 3072 768 refl i) (part-zeros 3328 512 refl i) (drop-zeros 3584 4096 512 refl i)

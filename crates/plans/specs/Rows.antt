@@ -1,12 +1,14 @@
 -- Hashes as rows of four words, `[[u64; 4]; n]` in the code. Assumes nothing.
 use mathlib.Core.Path.{_≡_, refl, sym, ap, _∙_}
 use mathlib.Core.List.{List, [], _∷_, _++_}
-use Prim.Native.Nat.{ℕ, zero, suc, _+_, _*_, _≤_, _<_}
+use Prim.Native.Nat.{ℕ, zero, suc, _+_, _-_, _*_, _≤_, _<_}
 use native.Mathlib.Omega.{arith}
-use lib.ListN.{length, take, drop, getD}
+use lib.ListN.{length, take, drop, getD, replicate}
 use lib.Seq.{drop-cons}
-use Rattle.model.specs.Hash.{hash, hashes-in}
-use Rattle.model.specs.Layout.{Table, word, words-at}
+use Rattle.model.specs.Lists.{pad}
+use Rattle.model.specs.Hash.{hash, hashes-in, hashes-words}
+use Rattle.model.specs.Layout.{Table, word, words-at, hedged-words, planned-words}
+use Rattle.laws.specs.Tables.{length-hashes}
 use Rattle.model.specs.declared.Hash.{Hash}
 
 -- the words of a row
@@ -76,3 +78,45 @@ pub words-rows : (n k m : ℕ) (t : Table) → length (t .head) ≡ 512 → k + 
 words-rows zero k m t long h e = no-words k m t (omega arith)
 words-rows (suc n) k m t long h e =
     ap (λ (r : List ℕ). row-at k t ++ r) (words-rows n (k + 4) (4 * n) t long (omega arith) refl) ∙ sym (words-four k m (4 * n) t long (omega arith) (omega arith))
+
+-- ---- rows of which the first n are hashes and the others 0
+
+-- a row of zeros
+abbrev pub zero-row : List ℕ
+zero-row = 0 ∷ 0 ∷ 0 ∷ 0 ∷ []
+
+zeros : (c i : ℕ) (rows : List (List ℕ)) → ((j : ℕ) → i ≤ j → row-words (getD rows j []) ≡ zero-row) → words-from i c rows ≡ replicate (4 * c) 0
+zeros zero i rows z = refl
+zeros (suc c) i rows z =
+    let e : suc (suc (suc (suc (4 * c)))) ≡ 4 * suc c = omega arith in
+    (λ k. z i (omega arith) k ++ zeros c (suc i) rows (λ j h. z j (omega (arith, h))) k) ∙ ap (λ (n : ℕ). replicate n 0) e
+
+padded : (n c i : ℕ) (rows : List (List ℕ)) → n ≤ c → ((j : ℕ) → i + n ≤ j → row-words (getD rows j []) ≡ zero-row)
+    → words-from i c rows ≡ hashes-words (hashes-from i n rows) ++ replicate (4 * (c - n)) 0
+unfolding hashes-words
+padded zero c i rows h z =
+    let e : c ≡ c - 0 = omega arith in
+    zeros c i rows (λ j g. z j (omega (arith, g))) ∙ ap (λ (n : ℕ). replicate (4 * n) 0) e
+padded (suc n) zero i rows h z = absurd (omega arith)
+padded (suc n) (suc c) i rows h z =
+    let e : c - n ≡ suc c - suc n = omega arith in
+    ap (λ (l : List ℕ). row-words (getD rows i []) ++ l)
+    (padded n c (suc i) rows (omega arith) (λ j g. z j (omega (arith, g))) ∙ ap (λ (k : ℕ). hashes-words (hashes-from (suc i) n rows) ++ replicate (4 * k) 0) e)
+
+length-from : (i n : ℕ) (rows : List (List ℕ)) → length (hashes-from i n rows) ≡ n
+length-from i zero rows = refl
+length-from i (suc n) rows = ap suc (length-from (suc i) n rows)
+
+-- so eight rows are `planned-words` of the first n hashes
+pub rows-planned : (n : ℕ) (rows : List (List ℕ)) → n ≤ 8 → ((j : ℕ) → n ≤ j → row-words (getD rows j []) ≡ zero-row) → rows-words 8 rows ≡ planned-words (rows-hashes n rows)
+unfolding rows-words rows-hashes planned-words pad
+rows-planned n rows h z =
+    let e : 4 * (8 - n) ≡ 32 - length (hashes-words (hashes-from 0 n rows)) = omega (arith, length-hashes (hashes-from 0 n rows), length-from 0 n rows) in
+    padded n 8 0 rows h (λ j g. z j (omega (arith, g))) ∙ ap (λ (k : ℕ). hashes-words (hashes-from 0 n rows) ++ replicate k 0) e
+
+-- and two rows after their number are `hedged-words`
+pub rows-hedged : (n : ℕ) (rows : List (List ℕ)) → n ≤ 2 → ((j : ℕ) → n ≤ j → row-words (getD rows j []) ≡ zero-row) → n ∷ rows-words 2 rows ≡ hedged-words (rows-hashes n rows)
+unfolding rows-words rows-hashes hedged-words pad
+rows-hedged n rows h z =
+    let e : 4 * (2 - n) ≡ 8 - length (hashes-words (hashes-from 0 n rows)) = omega (arith, length-hashes (hashes-from 0 n rows), length-from 0 n rows) in
+    λ i. sym (length-from 0 n rows) i ∷ (padded n 2 0 rows h (λ j g. z j (omega (arith, g))) ∙ ap (λ (k : ℕ). hashes-words (hashes-from 0 n rows) ++ replicate k 0) e) i

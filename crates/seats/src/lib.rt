@@ -11,9 +11,8 @@ ghost use Rattle.model.specs.Seats.{start-reset, body-reset, start-noted, activ
 ghost use Rattle.model.specs.LettingGo.{flagged};
 ghost use Rattle.model.specs.Window.{no-seats};
 ghost use Rattle.model.specs.Layout.{decode};
-ghost use Rattle.laws.specs.Tables.{with-starts, with-bodies, with-racers};
+ghost use Rattle.laws.specs.Tables.{with-starts, with-bodies, with-keys, with-racers, seat-reset, kept-seats};
 ghost use Rattle.records.specs.Places.{stored};
-ghost use Rattle.seats.specs.Resets.{seat-reset, seats-kept};
 use records::Oldest;
 
 // ---- one seat
@@ -98,7 +97,7 @@ fn body_reset(left: Oldest, body: u64) -> u64
     }
 }
 
-// `seat-reset`: an entry of the owner, asked at `removed`, has gone, and `left` is the oldest of those left. By `reset-is` it is
+// `seat-reset`: an entry of the owner, asked at `removed`, has gone, and `left` is the oldest of those left. By `table-reset` it is
 // `reset-owner-queue-start`.
 pub fn reset_owner_queue_start(
     words: &mut [u64],
@@ -201,13 +200,20 @@ fn keep_flagged(col: &mut [u64], flags: &[u64])
     }
 }
 
-// `seats-kept`: starts and last bodies, entries or none.
+// `kept-seats`: starts and last bodies, entries or none.
 pub fn keep_seats(words: &mut [u64], flags: &[u64])
     requires { ⌜ (length (now words) ≡ 4096) × (length (now flags) ≡ 256) ⌝ }
-    ensures { λ _. ⌜ decode (now (words .exit)) ≡ seats-kept (now (flags .entry)) (decode (now (words .entry))) ⌝ }
+    ensures { λ _. ⌜ decode (now (words .exit)) ≡ kept-seats (now (flags .entry)) (decode (now (words .entry))) ⌝ }
 {
     keep_flagged(&mut words[2304..2560], flags);
     keep_flagged(&mut words[2560..2816], flags);
+}
+
+pub fn set_keys(words: &mut [u64], keys: &[u64])
+    requires { ⌜ (length (now words) ≡ 4096) × (length (now keys) ≡ 256) ⌝ }
+    ensures { λ _. ⌜ decode (now (words .exit)) ≡ with-keys (now (keys .entry)) (decode (now (words .entry))) ⌝ }
+{
+    column::copy_over(&mut words[2816..3072], keys);
 }
 
 pub fn keep_racers(words: &mut [u64], flags: &[u64])

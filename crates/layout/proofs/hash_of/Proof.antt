@@ -1,17 +1,11 @@
 -- `layout::hash_of` meets its contract. Assumes nothing.
-use mathlib.Core.Path.{_≡_, sym, ap, _∙_}
-use mathlib.Core.List.{List}
-use Prim.Native.Nat.{ℕ, _+_}
+use mathlib.Core.Path.{sym}
 use native.Mathlib.Omega.{arith}
-use lib.ListN.{getD}
 use Rattle.model.specs.Hash.{hash}
-use Rattle.model.specs.Layout.{decode, word, hash-at}
-use Rattle.laws.specs.Tables.{word-decode}
+use Rattle.model.specs.Layout.{hash-at}
+use Rattle.laws.specs.Tables.{word-decode, word-offset}
 use Rattle.layout.proofs.hash_of.Statement.{statement}
 use Rattle.layout.proofs.hash_of.Tie as tie
-
-at : (k j : ℕ) (ws : List ℕ) → getD ws (3584 + k + j) 0 ≡ word (k + j) (decode ws)
-at k j ws = let e : 3584 + k + j ≡ 3584 + (k + j) = omega arith in ap (λ (n : ℕ). getD ws n 0) e ∙ sym (word-decode (k + j) ws)
 
 add-a : tie.Need-add-a
 add-a c = omega arith
@@ -55,7 +49,7 @@ returns c =
     let a = c .before .before .before .before .args in
     let k = a .k in
     let ws = a .words .now in
-    λ i. hash (sym (word-decode k ws) i) (at k 1 ws i) (at k 2 ws i) (at k 3 ws i)
+    λ i. hash (sym (word-decode k ws) i) (word-offset k 1 ws i) (word-offset k 2 ws i) (word-offset k 3 ws i)
 
 pub hash-of-spec : {M : Type 1} → statement M
 hash-of-spec =

@@ -1,16 +1,10 @@
 -- `plans::row_of` meets its contract. Assumes nothing.
-use mathlib.Core.Path.{_≡_, sym, ap, _∙_}
-use mathlib.Core.List.{List, [], _∷_}
-use Prim.Native.Nat.{ℕ, _+_}
+use mathlib.Core.Path.{sym}
+use mathlib.Core.List.{[], _∷_}
 use native.Mathlib.Omega.{arith}
-use lib.ListN.{getD}
-use Rattle.model.specs.Layout.{decode, word}
-use Rattle.laws.specs.Tables.{word-decode}
+use Rattle.laws.specs.Tables.{word-decode, word-offset}
 use Rattle.plans.proofs.row_of.Statement.{statement}
 use Rattle.plans.proofs.row_of.Tie as tie
-
-at : (k j : ℕ) (ws : List ℕ) → getD ws (3584 + k + j) 0 ≡ word (k + j) (decode ws)
-at k j ws = let e : 3584 + k + j ≡ 3584 + (k + j) = omega arith in ap (λ (n : ℕ). getD ws n 0) e ∙ sym (word-decode (k + j) ws)
 
 add-a : tie.Need-add-a
 add-a c = omega arith
@@ -52,7 +46,7 @@ returns : tie.Need-returns
 returns c =
     let k = c .before .before .before .before .args .k in
     let ws = c .before .before .before .before .args .words .now in
-    λ i. sym (word-decode k ws) i ∷ at k 1 ws i ∷ at k 2 ws i ∷ at k 3 ws i ∷ []
+    λ i. sym (word-decode k ws) i ∷ word-offset k 1 ws i ∷ word-offset k 2 ws i ∷ word-offset k 3 ws i ∷ []
 
 pub row-of-spec : {M : Type 1} → statement M
 row-of-spec =

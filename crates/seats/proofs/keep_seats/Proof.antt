@@ -9,7 +9,7 @@ use Rattle.model.specs.LettingGo.{flagged}
 use Rattle.model.specs.Layout.{decode}
 use Rattle.laws.specs.Tables.{with-starts, with-bodies, decode-starts, decode-bodies, sized-decode}
 use Rattle.column.proofs.Parts.{put, put-long, put-higher}
-use Rattle.seats.specs.Resets.{seats-kept}
+use Rattle.laws.specs.Tables.{kept-seats}
 use borrow.Author.Needs.{needs}
 use Rattle.seats.proofs.keep_seats.Statement.{statement}
 use Rattle.seats.proofs.keep_seats.Tie as tie
@@ -54,7 +54,7 @@ same-length : tie.Need-same-length
 same-length c = search needs
 
 returns : tie.Need-returns
-unfolding seats-kept
+unfolding kept-seats
 returns c =
     let a = c .before .before .before .before .before .before .before .before .before .before .args in
     let first = c .before .before .before .before .before .before .keep-flagged in

@@ -6,7 +6,7 @@ use Rattle.model.specs.Seats.{start-reset, body-reset}
 use Rattle.model.specs.Layout.{Table, decode}
 use Rattle.laws.specs.Tables.{with-starts, with-bodies}
 use Rattle.records.specs.Places.{stored}
-use Rattle.seats.specs.Resets.{seat-reset}
+use Rattle.laws.specs.Tables.{seat-reset}
 use borrow.Author.Needs.{needs}
 use Rattle.seats.proofs.reset_owner_queue_start.Statement.{statement}
 use Rattle.seats.proofs.reset_owner_queue_start.Tie as tie
