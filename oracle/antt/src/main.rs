@@ -16,7 +16,7 @@ use std::path::Path;
 use std::process::ExitCode;
 use std::{env, fs, io};
 
-/// In one sequence of so many, the last call is checked on lent words too, which takes seconds.
+/// In one sequence of so many, a call is checked on lent words too, which takes seconds.
 const SEQUENCES_A_SAMPLE: usize = 20;
 
 /// A run of at least so many calls is made of sequences that show every event.
@@ -80,8 +80,9 @@ fn modules(sequences: &[Sequence], a_file: usize) -> (Vec<(String, String)>, Str
         index.extend(events_of(sequence).iter().map(|event| format!("{name}\t{event}\n")));
         calls += sequence.calls.len();
     }
-    let sample = sequences.iter().enumerate().filter(|(number, sequence)| in_sample(*number, sequence));
-    modules.extend(sample.map(|(number, sequence)| (format!("Words{number}"), checks::by_words(number, sequence))));
+    for (number, sequence) in sequences.iter().enumerate().skip(SEQUENCES_A_SAMPLE / 2).step_by(SEQUENCES_A_SAMPLE) {
+        modules.push((format!("Words{number}"), checks::by_words(number, sequence, place_by_words(number, sequence))));
+    }
     (modules, index)
 }
 
@@ -111,8 +112,11 @@ fn events_of(sequence: &Sequence) -> BTreeSet<String> {
     tally.happened()
 }
 
-fn in_sample(number: usize, sequence: &Sequence) -> bool {
-    number % SEQUENCES_A_SAMPLE == SEQUENCES_A_SAMPLE / 2 && sequence.calls.len() > 1
+/// In every other sequence of the sample the last call, in the others the last that let something go.
+fn place_by_words(number: usize, sequence: &Sequence) -> usize {
+    let letting_go = sequence.outcomes.iter().rposition(|outcome| !outcome.gone.is_empty());
+    let last = sequence.calls.len() - 1;
+    if number / SEQUENCES_A_SAMPLE % 2 == 0 { letting_go.unwrap_or(last) } else { last }
 }
 
 fn print_tally(tally: &Tally, sequences: &[Sequence]) {
@@ -123,7 +127,7 @@ fn print_tally(tally: &Tally, sequences: &[Sequence]) {
         println!("{problem}");
     }
     let calls: usize = sequences.iter().map(|sequence| sequence.calls.len()).sum();
-    let by_words = sequences.iter().enumerate().filter(|(number, sequence)| in_sample(*number, sequence)).count();
+    let by_words = sequences.iter().skip(SEQUENCES_A_SAMPLE / 2).step_by(SEQUENCES_A_SAMPLE).count();
     println!(
         "{} sequences, {calls} calls; words at each sequence's end; {by_words} calls on lent words and a lent report",
         sequences.len()
