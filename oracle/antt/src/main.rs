@@ -8,7 +8,7 @@ use calls::select;
 use calls::tally::Tally;
 use calls::{Call, Outcome};
 use definitions::checks::{self, Sequence};
-use definitions::closed;
+use definitions::{closed, directed};
 use ordered::Original;
 use std::cmp::Reverse;
 use std::collections::BTreeSet;
@@ -18,6 +18,9 @@ use std::{env, fs, io};
 
 /// In one sequence of so many, a call is checked on lent words too, which takes seconds.
 const SEQUENCES_A_SAMPLE: usize = 20;
+
+/// The number of the first hand-made sequence.
+const DIRECTED: usize = 100_000;
 
 /// A run of at least so many calls is made of sequences that show every event.
 const LONG_RUN: u64 = 2_000;
@@ -31,7 +34,8 @@ fn main() -> io::Result<ExitCode> {
     let profile = Profile { mean_length: number(length), table: number(table), distinct_heights: false };
     let mut tally = Tally::default();
     let sequences = record(number(calls), number(seed), profile, &mut tally);
-    let (modules, index) = modules(&sequences, number(a_file) as usize);
+    let (mut modules, index) = modules(&sequences, number(a_file) as usize);
+    modules.push(("Directed".to_string(), directed()));
     closed::write(Path::new(out), Path::new(model), &modules)?;
     fs::write(Path::new(out).join("events.txt"), index)?;
     print_tally(&tally, &sequences);
@@ -84,6 +88,12 @@ fn modules(sequences: &[Sequence], a_file: usize) -> (Vec<(String, String)>, Str
         modules.push((format!("Words{number}"), checks::by_words(number, sequence, place_by_words(number, sequence))));
     }
     (modules, index)
+}
+
+/// The hand-made sequences, after the others.
+fn directed() -> String {
+    let sequences = directed::sequences(&mut Original::default());
+    (DIRECTED..).zip(&sequences).map(|(number, sequence)| checks::sequence(number, sequence)).collect()
 }
 
 /// The sequences that show the most new events a call come first.
