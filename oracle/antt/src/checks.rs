@@ -22,14 +22,14 @@ pub fn sequence(number: usize, sequence: &Sequence) -> String {
     theorem(&format!("run-{number}"), "runs", &spell::list(spell::calls(&sequence.calls)), &spell::list(digests))
 }
 
-/// The last call of a sequence on lent words and a lent report.
-pub fn by_words(number: usize, sequence: &Sequence) -> String {
-    let calls = spell::calls(&sequence.calls);
-    let (last, earlier) = calls.split_last().expect("a sequence has an opening");
-    let (call, outcome) = (&sequence.calls[earlier.len()], &sequence.outcomes[earlier.len()]);
+/// A call of a sequence on lent words and a lent report.
+pub fn by_words(number: usize, sequence: &Sequence, place: usize) -> String {
+    let earlier = spell::list(spell::calls(&sequence.calls[..place]));
+    let (call, outcome) = (&sequence.calls[place], &sequence.outcomes[place]);
     let expected =
         [answer_words(call, outcome), layout::encode(&outcome.state), report_words(&outcome.gone)].map(|words| digest(&words));
-    theorem(&format!("last-{number}"), "ends", &format!("{}) ({last}", spell::list(earlier)), &spell::list(expected))
+    let arguments = format!("{earlier}) ({}", spell::call(&call.into()));
+    theorem(&format!("call-{place}-of-{number}"), "ends", &arguments, &spell::list(expected))
 }
 
 /// A test that computes to `true`: an equation of lists would be refused as well, but slowly.

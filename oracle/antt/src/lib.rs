@@ -2,5 +2,6 @@
 
 pub mod checks;
 pub mod closed;
+pub mod directed;
 pub mod spell;
 mod template;

@@ -8,7 +8,7 @@ use calls::select;
 use calls::tally::Tally;
 use calls::{Call, Outcome};
 use definitions::checks::{self, Sequence};
-use definitions::closed;
+use definitions::{closed, directed};
 use ordered::Original;
 use std::cmp::Reverse;
 use std::collections::BTreeSet;
@@ -16,8 +16,11 @@ use std::path::Path;
 use std::process::ExitCode;
 use std::{env, fs, io};
 
-/// In one sequence of so many, the last call is checked on lent words too, which takes seconds.
+/// In one sequence of so many, a call is checked on lent words too, which takes seconds.
 const SEQUENCES_A_SAMPLE: usize = 20;
+
+/// The number of the first hand-made sequence.
+const DIRECTED: usize = 100_000;
 
 /// A run of at least so many calls is made of sequences that show every event.
 const LONG_RUN: u64 = 2_000;
@@ -31,7 +34,8 @@ fn main() -> io::Result<ExitCode> {
     let profile = Profile { mean_length: number(length), table: number(table), distinct_heights: false };
     let mut tally = Tally::default();
     let sequences = record(number(calls), number(seed), profile, &mut tally);
-    let (modules, index) = modules(&sequences, number(a_file) as usize);
+    let (mut modules, index) = modules(&sequences, number(a_file) as usize);
+    modules.push(("Directed".to_string(), directed()));
     closed::write(Path::new(out), Path::new(model), &modules)?;
     fs::write(Path::new(out).join("events.txt"), index)?;
     print_tally(&tally, &sequences);
@@ -80,9 +84,16 @@ fn modules(sequences: &[Sequence], a_file: usize) -> (Vec<(String, String)>, Str
         index.extend(events_of(sequence).iter().map(|event| format!("{name}\t{event}\n")));
         calls += sequence.calls.len();
     }
-    let sample = sequences.iter().enumerate().filter(|(number, sequence)| in_sample(*number, sequence));
-    modules.extend(sample.map(|(number, sequence)| (format!("Words{number}"), checks::by_words(number, sequence))));
+    for (number, sequence) in sequences.iter().enumerate().skip(SEQUENCES_A_SAMPLE / 2).step_by(SEQUENCES_A_SAMPLE) {
+        modules.push((format!("Words{number}"), checks::by_words(number, sequence, place_by_words(number, sequence))));
+    }
     (modules, index)
+}
+
+/// The hand-made sequences, after the others.
+fn directed() -> String {
+    let sequences = directed::sequences(&mut Original::default());
+    (DIRECTED..).zip(&sequences).map(|(number, sequence)| checks::sequence(number, sequence)).collect()
 }
 
 /// The sequences that show the most new events a call come first.
@@ -111,8 +122,11 @@ fn events_of(sequence: &Sequence) -> BTreeSet<String> {
     tally.happened()
 }
 
-fn in_sample(number: usize, sequence: &Sequence) -> bool {
-    number % SEQUENCES_A_SAMPLE == SEQUENCES_A_SAMPLE / 2 && sequence.calls.len() > 1
+/// In every other sequence of the sample the last call, in the others the last that let something go.
+fn place_by_words(number: usize, sequence: &Sequence) -> usize {
+    let letting_go = sequence.outcomes.iter().rposition(|outcome| !outcome.gone.is_empty());
+    let last = sequence.calls.len() - 1;
+    if number / SEQUENCES_A_SAMPLE % 2 == 0 { letting_go.unwrap_or(last) } else { last }
 }
 
 fn print_tally(tally: &Tally, sequences: &[Sequence]) {
@@ -123,7 +137,7 @@ fn print_tally(tally: &Tally, sequences: &[Sequence]) {
         println!("{problem}");
     }
     let calls: usize = sequences.iter().map(|sequence| sequence.calls.len()).sum();
-    let by_words = sequences.iter().enumerate().filter(|(number, sequence)| in_sample(*number, sequence)).count();
+    let by_words = sequences.iter().skip(SEQUENCES_A_SAMPLE / 2).step_by(SEQUENCES_A_SAMPLE).count();
     println!(
         "{} sequences, {calls} calls; words at each sequence's end; {by_words} calls on lent words and a lent report",
         sequences.len()

@@ -1,6 +1,6 @@
 //! One-line mistakes put into a copy of the definitions, one at a time: does a closed check catch each?
-//! mistakes MODEL LIST WORK TEXT: MODEL is the crate folder, LIST the list of mistakes, WORK has the crate folders `sequences` and `refusals`
-//! of closed checks, and mistakes whose line contains TEXT are tried.
+//! mistakes MODEL LIST WORK TEXT FROM: MODEL is the crate folder, LIST the list of mistakes, WORK has the crate folders `sequences` and `refusals`
+//! of closed checks, and mistakes whose line contains TEXT are tried, from the one with the number FROM on.
 
 use std::cmp::Reverse;
 use std::collections::{BTreeMap, BTreeSet};
@@ -22,6 +22,7 @@ struct Mistake {
 /// A module of closed checks, and the events that it shows.
 struct Check {
     name: String,
+    of_refusals: bool,
     text: String,
     events: Vec<String>,
 }
@@ -31,6 +32,9 @@ enum Verdict {
     NotCaught,
     NotBuilt(String),
 }
+
+/// Mistakes in these files are looked for by the refusals' checks too, even where the hint names none of them.
+const OF_REFUSALS: [&str; 4] = ["Refusals", "Layout", "Numbers", "Perform"];
 
 struct Work {
     model: PathBuf,
@@ -44,8 +48,8 @@ struct Work {
 
 fn main() -> io::Result<ExitCode> {
     let arguments: Vec<String> = env::args().skip(1).collect();
-    let [model, list, folder, only] = &arguments[..] else {
-        eprintln!("wanted: MODEL LIST WORK TEXT");
+    let [model, list, folder, only, from] = &arguments[..] else {
+        eprintln!("wanted: MODEL LIST WORK TEXT FROM");
         return Ok(ExitCode::from(2));
     };
     let list = fs::read_to_string(list)?;
@@ -53,16 +57,18 @@ fn main() -> io::Result<ExitCode> {
     let mut work = Work::new(Path::new(model), Path::new(folder))?;
     let begin = Instant::now();
     let mut caught = 0;
-    for (number, mistake) in mistakes.iter().enumerate() {
+    let from: usize = from.parse().unwrap_or(1);
+    let tried: Vec<(usize, &Mistake)> = (1..).zip(&mistakes).skip(from - 1).collect();
+    for (number, mistake) in &tried {
         let verdict = work.try_mistake(mistake)?;
         caught += usize::from(matches!(verdict, Verdict::Caught { .. }));
-        println!("{}", line(number + 1, mistake, &verdict));
+        println!("{}", line(*number, mistake, &verdict));
     }
     let without = work.without_mistake()?;
     println!("without a mistake: {without}");
-    println!("{} mistakes, {caught} caught; {} s", mistakes.len(), begin.elapsed().as_secs());
-    println!("{caught} passed, {} failed", mistakes.len() - caught);
-    let passed = caught == mistakes.len() && without.ends_with("hold");
+    println!("{} mistakes, {caught} caught; {} s", tried.len(), begin.elapsed().as_secs());
+    println!("{caught} passed, {} failed", tried.len() - caught);
+    let passed = caught == tried.len() && without.ends_with("hold");
     Ok(if passed { ExitCode::SUCCESS } else { ExitCode::FAILURE })
 }
 
@@ -79,7 +85,8 @@ fn line(number: usize, mistake: &Mistake, verdict: &Verdict) -> String {
         Verdict::NotBuilt(problem) => format!("NOT BUILT {problem}"),
     };
     let about = if mistake.about.is_empty() { String::new() } else { format!(" ({})", mistake.about) };
-    format!("| {number} | {}{about} | `{}` → `{}` | {verdict} |", mistake.file, mistake.old, mistake.new)
+    let code = |text: &str| text.replace('|', "\\|");
+    format!("| {number} | {}{about} | `{}` → `{}` | {verdict} |", mistake.file, code(&mistake.old), code(&mistake.new))
 }
 
 impl Work {
@@ -93,7 +100,9 @@ impl Work {
     fn try_mistake(&mut self, mistake: &Mistake) -> io::Result<Verdict> {
         let score = |check: &Check| self.caught.get(&(mistake.file.clone(), check.name.clone())).copied().unwrap_or(0);
         let shown = |check: &Check| check.events.iter().filter(|event| event.contains(&mistake.hint)).count();
-        let mut order: Vec<&Check> = self.checks.iter().collect();
+        let refusals_too = OF_REFUSALS.contains(&mistake.file.as_str());
+        let mut order: Vec<&Check> =
+            self.checks.iter().filter(|check| refusals_too || !check.of_refusals || shown(check) > 0).collect();
         order.sort_by_key(|check| Reverse((shown(check), score(check))));
         let (mut tried, mut at_once) = (0, 2);
         while tried < order.len() {
@@ -163,7 +172,7 @@ fn checks(folder: &Path) -> io::Result<Vec<Check>> {
             let shown = index.lines().filter_map(|line| line.split_once('\t')).filter(|(module, _)| *module == name);
             let events = shown.map(|(_, event)| event).chain([name]).map(str::to_string).collect();
             let text = inside(&fs::read_to_string(folder.join(format!("specs/{name}.antt")))?);
-            Ok(Check { name: name.to_string(), text, events })
+            Ok(Check { name: name.to_string(), of_refusals: !folder.ends_with("sequences"), text, events })
         })
         .collect()
 }
