@@ -19,3 +19,4 @@ pub mod Whole
 pub mod Groups
 pub mod Valid
 pub mod Words
+pub mod Batches
