@@ -330,19 +330,19 @@ outs-more now g gs m₁ m q p ps h h₁ =
     let each = each-picks (InRange now) all (h .each) in
     let top : (s : ℕ) → oldest s m ≤ suc now = λ s. oldest-top s now m each in
     let starts : outs now gs m q₁ .starts ≡ outs now (g ∷ gs) m q .starts =
-        ext-getD 0 (outs now gs m q₁ .starts) (outs now (g ∷ gs) m q .starts) (a .seats ∙ sym (b .seats)) (λ s k.
-        let k′ : s < 256 = omega (arith, a .seats) in
-        start-is ps s now T (q₁ .starts) (q₁ .bodies) (omega (arith, h₁ .seats)) (top s) (h₁ .starts s k′)
-        ∙ ap (start-after now (oldest s m₁) (oldest s m)) (start-is one s now (q .total - g .entry .estimate) (q .starts) (q .bodies) (omega (arith, h .seats)) (oldest-top s now m₁ (h₁ .each)) (h .starts s k′))
-        ∙ start-twice now (oldest s (q .pending)) (oldest s m₁) (oldest s m) (getD (q .starts) s 0) (later-left one s) (later-left ps s)
-        ∙ sym (start-is all s now T (q .starts) (q .bodies) (omega (arith, h .seats)) (top s) (h .starts s k′))) in
+    ext-getD 0 (outs now gs m q₁ .starts) (outs now (g ∷ gs) m q .starts) (a .seats ∙ sym (b .seats)) (λ s k.
+    let k′ : s < 256 = omega (arith, a .seats) in
+    start-is ps s now T (q₁ .starts) (q₁ .bodies) (omega (arith, h₁ .seats)) (top s) (h₁ .starts s k′)
+    ∙ ap (start-after now (oldest s m₁) (oldest s m)) (start-is one s now (q .total - g .entry .estimate) (q .starts) (q .bodies) (omega (arith, h .seats)) (oldest-top s now m₁ (h₁ .each)) (h .starts s k′))
+    ∙ start-twice now (oldest s (q .pending)) (oldest s m₁) (oldest s m) (getD (q .starts) s 0) (later-left one s) (later-left ps s)
+    ∙ sym (start-is all s now T (q .starts) (q .bodies) (omega (arith, h .seats)) (top s) (h .starts s k′))) in
     let bodies : outs now gs m q₁ .bodies ≡ outs now (g ∷ gs) m q .bodies =
-        ext-getD 0 (outs now gs m q₁ .bodies) (outs now (g ∷ gs) m q .bodies) (a .bodies .places ∙ sym (b .bodies .places)) (λ s k.
-        let k′ : s < 256 = omega (arith, a .bodies .places) in
-        body-is ps s now T (q₁ .starts) (q₁ .bodies) (omega (arith, h₁ .bodies .places))
-        ∙ ap (body-after (oldest s m₁) (oldest s m)) (body-is one s now (q .total - g .entry .estimate) (q .starts) (q .bodies) (omega (arith, h .bodies .places)))
-        ∙ body-twice (oldest s (q .pending)) (oldest s m₁) (oldest s m) (getD (q .bodies) s 0) (later-left one s) (later-left ps s)
-        ∙ sym (body-is all s now T (q .starts) (q .bodies) (omega (arith, h .bodies .places)))) in
+    ext-getD 0 (outs now gs m q₁ .bodies) (outs now (g ∷ gs) m q .bodies) (a .bodies .places ∙ sym (b .bodies .places)) (λ s k.
+    let k′ : s < 256 = omega (arith, a .bodies .places) in
+    body-is ps s now T (q₁ .starts) (q₁ .bodies) (omega (arith, h₁ .bodies .places))
+    ∙ ap (body-after (oldest s m₁) (oldest s m)) (body-is one s now (q .total - g .entry .estimate) (q .starts) (q .bodies) (omega (arith, h .bodies .places)))
+    ∙ body-twice (oldest s (q .pending)) (oldest s m₁) (oldest s m) (getD (q .bodies) s 0) (later-left one s) (later-left ps s)
+    ∙ sym (body-is all s now T (q .starts) (q .bodies) (omega (arith, h .bodies .places)))) in
     let total : outs now gs m q₁ .total ≡ outs now (g ∷ gs) m q .total = resets-total now gs _ ∙ sym (resets-total now (g ∷ gs) (queue T m (q .starts) (q .bodies))) in
     let pending : outs now gs m q₁ .pending ≡ outs now (g ∷ gs) m q .pending = resets-pending now gs _ ∙ sym (resets-pending now (g ∷ gs) (queue T m (q .starts) (q .bodies))) in
     λ i. queue (total i) (pending i) (starts i) (bodies i)

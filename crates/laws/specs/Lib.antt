@@ -20,3 +20,4 @@ pub mod Groups
 pub mod Valid
 pub mod Words
 pub mod Batches
+pub mod Marks
