@@ -1,0 +1,22 @@
+-- `layout::load_attempted` meets its contract. Assumes nothing.
+use mathlib.Core.Path.{ap, _∙_}
+use Rattle.model.specs.Layout.{source-of}
+use borrow.Author.Needs.{needs}
+use Rattle.layout.proofs.load_attempted.Statement.{statement}
+use Rattle.layout.proofs.load_attempted.Tie as tie
+use Rattle.layout.proofs.load_attempted.Reads as reads
+use Rattle.layout.proofs.load_attempted.Lts as lts
+use Rattle.layout.proofs.source_of.Reads as source-of-reads
+use Rattle.layout.proofs.word_of.Reads as word-of-reads
+
+word-of-requires : tie.Need-word-of-requires
+word-of-requires c κs = search needs
+
+source-of-requires : tie.Need-source-of-requires
+source-of-requires c κs = search needs
+
+returns : tie.Need-returns
+returns c = c .source-of .ensures ∙ ap source-of (c .before .word-of .ensures)
+
+pub load-attempted-spec : {M : Type 1} → statement M
+load-attempted-spec = tie.close (tie.spec word-of-requires source-of-requires returns)

@@ -1,0 +1,16 @@
+-- `state::key_of` meets its contract. Assumes nothing.
+use Rattle.model.specs.Layout.{window-of, read}
+use Rattle.model.specs.Cooling.{key-of}
+use borrow.Author.Needs.{needs}
+use Rattle.state.proofs.key_of.Statement.{statement}
+use Rattle.state.proofs.key_of.Tie as tie
+
+key-of-requires : tie.Need-key-of-requires
+key-of-requires c κs = search needs
+
+returns : tie.Need-returns
+unfolding window-of read key-of
+returns c = c .key-of .ensures
+
+pub key-of-spec : {M : Type 1} → statement M
+key-of-spec = tie.close (tie.spec key-of-requires returns)

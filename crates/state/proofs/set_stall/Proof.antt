@@ -1,0 +1,24 @@
+-- `state::set_stall` meets its contract. Assumes nothing.
+use Rattle.model.specs.Layout.{window-of, stall-words}
+use Rattle.laws.specs.Tables.{with-words}
+use Rattle.laws.specs.Whole.{lifted, words-shaped}
+use Rattle.laws.specs.Groups.{stall-in}
+use borrow.Author.Needs.{needs}
+use Rattle.state.proofs.set_stall.Statement.{statement}
+use Rattle.state.proofs.set_stall.Tie as tie
+
+store-stall-requires : tie.Need-store-stall-requires
+store-stall-requires c κs = search needs
+
+same-length : tie.Need-same-length
+same-length c = search needs
+
+returns : tie.Need-returns
+returns c =
+    let start = c .before .before .before .before .before in
+    let ws = start .args .words .now in
+    let whole = start .pre .0 in
+    lifted ws _ (with-words 27 (stall-words (start .args .x))) _ whole (c .before .before .store-stall .kept .0) (c .before .before .store-stall .ensures) (stall-in (window-of ws) (start .args .x)) (words-shaped ws (whole .long))
+
+pub set-stall-spec : {M : Type 1} → statement M
+set-stall-spec = tie.close (tie.spec store-stall-requires same-length returns)

@@ -1,0 +1,31 @@
+-- `states::load_stuck` meets its contract. Assumes nothing.
+use mathlib.Core.Path.{_∙_}
+use Rattle.model.specs.Layout.{stuck-of}
+use borrow.Author.Needs.{needs}
+use Rattle.states.proofs.load_stuck.Statement.{statement}
+use Rattle.states.proofs.load_stuck.Tie as tie
+use Rattle.states.proofs.load_stuck.Reads as reads
+use Rattle.states.proofs.load_stuck.Lts as lts
+use Rattle.layout.proofs.hash_of.Reads as hash-of-reads
+use Rattle.states.proofs.stuck_of.Reads as stuck-of-reads
+use Rattle.layout.proofs.word_of.Reads as word-of-reads
+
+word-of-requires : tie.Need-word-of-requires
+word-of-requires c κs = search needs
+
+word-of-requires-2 : tie.Need-word-of-requires-2
+word-of-requires-2 c κs = search needs
+
+hash-of-requires : tie.Need-hash-of-requires
+hash-of-requires c κs = search needs
+
+stuck-of-requires : tie.Need-stuck-of-requires
+stuck-of-requires c κs = search needs
+
+returns : tie.Need-returns
+returns c = c .stuck-of .ensures ∙ (λ i. stuck-of (c .before .before .before .word-of .ensures i) (c .before .before .word-of2 .ensures i) (c .before .hash-of .ensures i))
+
+pub load-stuck-spec : {M : Type 1} → statement M
+load-stuck-spec =
+    tie.close
+    (tie.spec word-of-requires word-of-requires-2 hash-of-requires stuck-of-requires returns)

@@ -1,0 +1,20 @@
+-- `states::stall_of` meets its contract. Assumes nothing.
+use native.Mathlib.Omega.{arith}
+use Rattle.states.proofs.Cases.{stall-some}
+use borrow.Author.Needs.{needs}
+use Rattle.states.proofs.stall_of.Statement.{statement}
+use Rattle.states.proofs.stall_of.Tie as tie
+use Rattle.states.proofs.stall_of.Reads as reads
+use Rattle.states.proofs.stall_of.Lts as lts
+
+returns : tie.Need-returns
+returns c = search needs
+
+sub-t5 : tie.Need-sub-t5
+sub-t5 c = omega arith
+
+returns-2 : tie.Need-returns-2
+returns-2 c = stall-some (c .before .args .since) (c .before .args .owner) (c .before .args .h) (c .if1 .left)
+
+pub stall-of-spec : {M : Type 1} → statement M
+stall-of-spec = tie.close (tie.spec returns sub-t5 returns-2)
