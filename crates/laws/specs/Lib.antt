@@ -21,3 +21,4 @@ pub mod Valid
 pub mod Words
 pub mod Batches
 pub mod Marks
+pub mod Pending
