@@ -6,7 +6,7 @@ use native.Mathlib.Nat.{le-of-suc-le-suc, not-suc-le-zero}
 use native.Mathlib.Omega.{arith}
 use lib.ListN.{length, getD, take, drop, set, length-take}
 use lib.Seq.{drop-cons, take-suc, take-suc-set}
-use Rattle.model.specs.Numbers.{max-seat, max-estimate}
+use Rattle.model.specs.Numbers.{max-clock, max-seat, max-estimate}
 use Rattle.model.specs.Window.{Window}
 use Rattle.model.specs.Layout.{blank, entry-at, rows, decode, field, word, live, read, window-of}
 use Rattle.model.specs.declared.Entry.{Entry}
@@ -39,13 +39,14 @@ pub marks-step : (f : Entry → ℕ) (l : List Entry) (ms : List ℕ) (i v : ℕ
 marks-step f l ms i v d h k e q =
     take-suc-set ms i v k ∙ (λ j. e j ++ (q j ∷ [])) ∙ sym (ap (map f) (take-suc l i d h) ∙ map-snoc f (take i l) (getD l i d))
 
--- ---- owners are seats
+-- ---- entries in their ranges, whatever the clock
 
-abbrev pub Owned : Window → Type 0
-Owned w = Each (λ e. e .owner ≤ max-seat) (w .queue .pending)
+abbrev pub Ranged : Window → Type 0
+Ranged w = Each (InRange max-clock) (w .queue .pending)
 
-pub sound-owned : (c : ℕ) (w : Window) → Sound c w → Owned w
-sound-owned c w g = each-map (λ e k. k .owner) (w .queue .pending) (g .queue .each)
+pub sound-ranged : (c : ℕ) (w : Window) → Sound c w → Ranged w
+sound-ranged c w g =
+    each-map (λ e k. record { owner = k .owner; time = omega (arith, k .time, g .clock); height = k .height; least = k .least; most = k .most }) (w .queue .pending) (g .queue .each)
 
 -- ---- the window of words
 
@@ -81,15 +82,15 @@ module _ (ws : List ℕ) where
     pub estimate-at : getD pending i blank .estimate ≡ getD ws (i + 1792) 0
     estimate-at = pending-field 7 (omega arith)
 
-    -- what a sound window says of the words there
-    pub seat-at : Owned (window-of ws) → getD ws (i + 1024) 0 ≤ max-seat
-    seat-at a = rw owner-at at (each-at (λ e. e .owner ≤ max-seat) pending i blank a h)
+    -- what such entries say of the words there
+    pub seat-at : Ranged (window-of ws) → getD ws (i + 1024) 0 ≤ max-seat
+    seat-at a = rw owner-at at (each-at (InRange max-clock) pending i blank a h .owner)
 
-    pub time-le : (c : ℕ) → Sound c (window-of ws) → getD ws (i + 1280) 0 ≤ c
-    time-le c g = rw time-at at (each-at (InRange c) pending i blank (g .queue .each) h .time)
+    pub time-le : Ranged (window-of ws) → getD ws (i + 1280) 0 ≤ max-clock
+    time-le a = rw time-at at (each-at (InRange max-clock) pending i blank a h .time)
 
-    pub estimate-le : (c : ℕ) → Sound c (window-of ws) → getD ws (i + 1792) 0 ≤ max-estimate
-    estimate-le c g = rw estimate-at at (each-at (InRange c) pending i blank (g .queue .each) h .most)
+    pub estimate-le : Ranged (window-of ws) → getD ws (i + 1792) 0 ≤ max-estimate
+    estimate-le a = rw estimate-at at (each-at (InRange max-clock) pending i blank a h .most)
 
   -- a seat's words
   pub start-word : (s : ℕ) → s < 256 → getD (window-of ws .queue .starts) s 0 ≡ getD ws (2304 + s) 0

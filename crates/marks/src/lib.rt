@@ -10,9 +10,8 @@ ghost use Rattle.model.specs.Numbers.{max-clock, max-estimate};
 ghost use Rattle.model.specs.Time.{expired, effective-owner-timeout, active};
 ghost use Rattle.model.specs.LettingGo.{sweep-reason, lost-reason, flagged, forecast-blocks, forecast-bytes};
 ghost use Rattle.model.specs.Layout.{window-of};
-ghost use Rattle.laws.specs.Sound.{Sound};
 ghost use Rattle.laws.specs.Batches.{retire-reason};
-ghost use Rattle.laws.specs.Pending.{Owned};
+ghost use Rattle.laws.specs.Pending.{Ranged};
 
 // What a sweep would take of expired owners: how many entries, and their bytes.
 pub struct Forecast {
@@ -47,7 +46,7 @@ fn sweep_mark(clock: u64, timeout: u64, wait: u64, time: u64, start: u64, body: 
 
 // `sweep-reason`
 pub fn sweep_marks(words: &[u64], count: usize, clock: u64, timeout: u64, wait: u64) -> [u64; 256]
-    requires { ⌜ (length (now words) ≡ 4096) × ((count ≡ length (window-of (now words) .queue .pending)) × ((wait ≡ window-of (now words) .pace .wait) × Sound clock (window-of (now words)))) ⌝ }
+    requires { ⌜ (length (now words) ≡ 4096) × ((count ≡ length (window-of (now words) .queue .pending)) × ((wait ≡ window-of (now words) .pace .wait) × (Ranged (window-of (now words)) × (clock ≤ max-clock)))) ⌝ }
     ensures { λ r. ⌜ take count r ≡ map (sweep-reason clock timeout (window-of (now (words .entry)))) (window-of (now (words .entry)) .queue .pending) ⌝ }
 {
     let mut marks = [0; 256];
@@ -101,7 +100,7 @@ fn lost_mark(flag: u64, reason: u64) -> u64
 
 // `lost-reason` by flags, nonzero for a seat that is kept.
 pub fn lost_marks(words: &[u64], count: usize, flags: &[u64], reason: u64) -> [u64; 256]
-    requires { ⌜ (length (now words) ≡ 4096) × ((count ≡ length (window-of (now words) .queue .pending)) × ((length (now flags) ≡ 256) × Owned (window-of (now words)))) ⌝ }
+    requires { ⌜ (length (now words) ≡ 4096) × ((count ≡ length (window-of (now words) .queue .pending)) × ((length (now flags) ≡ 256) × Ranged (window-of (now words)))) ⌝ }
     ensures { λ r. ⌜ take count r ≡ map (lost-reason (flagged (now (flags .entry))) reason) (window-of (now (words .entry)) .queue .pending) ⌝ }
 {
     let mut marks = [0; 256];
@@ -131,7 +130,7 @@ fn counted(f: Forecast, expired: bool, estimate: u64) -> Forecast
 
 // `forecast-blocks` and `forecast-bytes`
 pub fn forecast_of(words: &[u64], count: usize, clock: u64, timeout: u64) -> Forecast
-    requires { ⌜ (length (now words) ≡ 4096) × ((count ≡ length (window-of (now words) .queue .pending)) × ((timeout ≡ effective-owner-timeout (active (window-of (now words))) (window-of (now words))) × Sound clock (window-of (now words)))) ⌝ }
+    requires { ⌜ (length (now words) ≡ 4096) × ((count ≡ length (window-of (now words) .queue .pending)) × ((timeout ≡ effective-owner-timeout (active (window-of (now words))) (window-of (now words))) × (Ranged (window-of (now words)) × (clock ≤ max-clock)))) ⌝ }
     ensures { λ r. ⌜ (r .blocks ≡ forecast-blocks clock (window-of (now (words .entry)))) × (r .bytes ≡ forecast-bytes clock (window-of (now (words .entry)))) ⌝ }
 {
     let mut f = Forecast {

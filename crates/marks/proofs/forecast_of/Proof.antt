@@ -13,7 +13,7 @@ use Rattle.model.specs.Window.{Window}
 use Rattle.model.specs.Layout.{blank, window-of}
 use Rattle.model.specs.declared.Entry.{Entry}
 use Rattle.laws.specs.Numbers.{both}
-use Rattle.laws.specs.Pending.{Owned, sound-owned, pending-few, pending-cons, owner-at, estimate-at, seat-at, estimate-le, start-word}
+use Rattle.laws.specs.Pending.{Ranged, pending-few, pending-cons, owner-at, estimate-at, seat-at, estimate-le, start-word}
 use native.Mathlib.Omega.{arith}
 use Rattle.marks.proofs.forecast_of.Statement.{statement}
 use Rattle.marks.proofs.forecast_of.Tie as tie
@@ -35,7 +35,7 @@ more p e l b x y x′ y′ q s t u v = elim (both (p e)) [
 ]
 
 -- whether the record at j is counted
-is-gone : (ws : List ℕ) (j clock timeout : ℕ) (b : Bool) → j < length (window-of ws .queue .pending) → Owned (window-of ws)
+is-gone : (ws : List ℕ) (j clock timeout : ℕ) (b : Bool) → j < length (window-of ws .queue .pending) → Ranged (window-of ws)
     → timeout ≡ effective-owner-timeout (active (window-of ws)) (window-of ws) → b ≡ expired clock timeout (getD ws (2304 + getD ws (j + 1024) 0) 0)
     → b ≡ goes clock (window-of ws) (getD (window-of ws .queue .pending) j blank)
 unfolding owner-download-expired
@@ -43,7 +43,7 @@ is-gone ws j clock timeout b h a q is =
     let s = sym (ap (λ (k : ℕ). getD (window-of ws .queue .starts) k 0) (owner-at ws j h) ∙ start-word ws (getD ws (j + 1024) 0) (omega (arith, seat-at ws j h a))) in
     is ∙ (λ k. expired clock (q k) (s k))
 
-turn : (ws : List ℕ) (i j clock timeout x y x′ y′ : ℕ) (b : Bool) → i ≡ suc j → j < length (window-of ws .queue .pending) → Owned (window-of ws)
+turn : (ws : List ℕ) (i j clock timeout x y x′ y′ : ℕ) (b : Bool) → i ≡ suc j → j < length (window-of ws .queue .pending) → Ranged (window-of ws)
     → timeout ≡ effective-owner-timeout (active (window-of ws)) (window-of ws) → b ≡ expired clock timeout (getD ws (2304 + getD ws (j + 1024) 0) 0)
     → x ≡ length (select (goes clock (window-of ws)) (drop i (window-of ws .queue .pending))) → y ≡ sum (select (goes clock (window-of ws)) (drop i (window-of ws .queue .pending)))
     → x′ ≡ cond b (suc x) x → y′ ≡ cond b (getD ws (j + 1792) 0 + y) y
@@ -97,16 +97,16 @@ shared-slice-read-o : tie.Need-shared-slice-read-o Inv-loop μ-loop
 shared-slice-read-o c = omega (arith, c .before .before .loop .inv .within, pending-few (c .before .before .before .before .args .words .now))
 
 add-expired : tie.Need-add-expired Inv-loop μ-loop
-add-expired c = omega (arith, seat-at (c .before .before .before .before .args .words .now) (c .before .before .loop .i - 1) (omega (arith, c .before .before .loop .inv .within)) (sound-owned _ _ (c .before .before .before .before .pre .1 .1 .1)))
+add-expired c = omega (arith, seat-at (c .before .before .before .before .args .words .now) (c .before .before .loop .i - 1) (omega (arith, c .before .before .loop .inv .within)) (c .before .before .before .before .pre .1 .1 .1 .0))
 
 mul-expired : tie.Need-mul-expired Inv-loop μ-loop
-mul-expired c = omega (arith, seat-at (c .before .before .before .before .args .words .now) (c .before .before .loop .i - 1) (omega (arith, c .before .before .loop .inv .within)) (sound-owned _ _ (c .before .before .before .before .pre .1 .1 .1)))
+mul-expired c = omega (arith, seat-at (c .before .before .before .before .args .words .now) (c .before .before .loop .i - 1) (omega (arith, c .before .before .loop .inv .within)) (c .before .before .before .before .pre .1 .1 .1 .0))
 
 shared-slice-read-expired : tie.Need-shared-slice-read-expired Inv-loop μ-loop
-shared-slice-read-expired c = omega (arith, seat-at (c .before .before .before .before .before .args .words .now) (c .before .before .before .loop .i - 1) (omega (arith, c .before .before .before .loop .inv .within)) (sound-owned _ _ (c .before .before .before .before .before .pre .1 .1 .1)))
+shared-slice-read-expired c = omega (arith, seat-at (c .before .before .before .before .before .args .words .now) (c .before .before .before .loop .i - 1) (omega (arith, c .before .before .before .loop .inv .within)) (c .before .before .before .before .before .pre .1 .1 .1 .0))
 
 expired-requires : tie.Need-expired-requires Inv-loop μ-loop
-expired-requires c κs = c .before .before .before .before .before .pre .1 .1 .1 .clock
+expired-requires c κs = c .before .before .before .before .before .pre .1 .1 .1 .1
 
 add-counted : tie.Need-add-counted Inv-loop μ-loop
 add-counted c = omega (arith, c .before .before .before .before .loop .inv .within, pending-few (c .before .before .before .before .before .before .args .words .now))
@@ -121,7 +121,7 @@ counted-requires : tie.Need-counted-requires Inv-loop μ-loop
 counted-requires c κs =
     let v = c .before .before .before .before .before .loop in
     let few = pending-few (c .before .before .before .before .before .before .before .args .words .now) in
-    (omega (arith, v .inv .few, v .inv .within), (omega (arith, v .inv .low, v .inv .within), estimate-le (c .before .before .before .before .before .before .before .args .words .now) (v .i - 1) (omega (arith, v .inv .within)) (c .before .before .before .before .before .before .before .args .clock) (c .before .before .before .before .before .before .before .pre .1 .1 .1)))
+    (omega (arith, v .inv .few, v .inv .within), (omega (arith, v .inv .low, v .inv .within), estimate-le (c .before .before .before .before .before .before .before .args .words .now) (v .i - 1) (omega (arith, v .inv .within)) (c .before .before .before .before .before .before .before .pre .1 .1 .1 .0)))
 
 loop-less : tie.Need-loop-less Inv-loop μ-loop
 loop-less c = omega arith
@@ -134,9 +134,9 @@ loop-again c =
     let j = v .i - 1 in
     let h : j < length (window-of ws .queue .pending) = omega (arith, v .inv .within) in
     let e : v .i ≡ suc j = omega arith in
-    let g = c .before .before .before .before .before .before .before .before .pre .1 .1 .1 in
-    let t = turn ws (v .i) j (a .clock) (a .timeout) (v .f .blocks) (v .f .bytes) (c .counted .result .blocks) (c .counted .result .bytes) (c .before .before .expired .result) e h (sound-owned _ _ g) (c .before .before .before .before .before .before .before .before .pre .1 .1 .0) (c .before .before .expired .ensures) (v .inv .blocks) (v .inv .bytes) (c .counted .ensures .0) (c .counted .ensures .1) in
-    let most = grows (c .before .before .expired .result) (v .f .blocks) (v .f .bytes) (getD ws (j + 1792) 0) (c .counted .result .blocks) (c .counted .result .bytes) (a .count - v .i) (v .inv .few) (v .inv .low) (estimate-le ws j h (a .clock) g) (c .counted .ensures .0) (c .counted .ensures .1) in
+    let g = c .before .before .before .before .before .before .before .before .pre .1 .1 .1 .0 in
+    let t = turn ws (v .i) j (a .clock) (a .timeout) (v .f .blocks) (v .f .bytes) (c .counted .result .blocks) (c .counted .result .bytes) (c .before .before .expired .result) e h g (c .before .before .before .before .before .before .before .before .pre .1 .1 .0) (c .before .before .expired .ensures) (v .inv .blocks) (v .inv .bytes) (c .counted .ensures .0) (c .counted .ensures .1) in
+    let most = grows (c .before .before .expired .result) (v .f .blocks) (v .f .bytes) (getD ws (j + 1792) 0) (c .counted .result .blocks) (c .counted .result .bytes) (a .count - v .i) (v .inv .few) (v .inv .low) (estimate-le ws j h g) (c .counted .ensures .0) (c .counted .ensures .1) in
     record { within = omega (arith, v .inv .within); few = omega (arith, most .0, v .inv .within); low = omega (arith, most .1, v .inv .within); blocks = t .0; bytes = t .1 }
 
 returns : tie.Need-returns Inv-loop μ-loop

@@ -10,7 +10,7 @@ use lib.Dec.{eqb, ltb, leb}
 use Rattle.model.specs.Layout.{blank, window-of}
 use Rattle.model.specs.Time.{expired}
 use Rattle.model.specs.LettingGo.{skipped, sweep-reason}
-use Rattle.laws.specs.Pending.{Owned, sound-owned, marks-step, pending-few, owner-at, time-at, seat-at, time-le, start-word, body-word}
+use Rattle.laws.specs.Pending.{Ranged, marks-step, pending-few, owner-at, time-at, seat-at, time-le, start-word, body-word}
 use native.Mathlib.Omega.{arith}
 use Rattle.marks.proofs.sweep_marks.Statement.{statement}
 use Rattle.marks.proofs.sweep_marks.Tie as tie
@@ -19,7 +19,7 @@ use Rattle.marks.proofs.sweep_marks.Lts as lts
 use Rattle.marks.proofs.sweep_mark.Reads as sweep-mark-reads
 
 -- the mark of the record at i
-marked : (ws : List ℕ) (i clock timeout wait v : ℕ) → i < length (window-of ws .queue .pending) → Owned (window-of ws) → wait ≡ window-of ws .pace .wait
+marked : (ws : List ℕ) (i clock timeout wait v : ℕ) → i < length (window-of ws .queue .pending) → Ranged (window-of ws) → wait ≡ window-of ws .pace .wait
     → v ≡ cond (expired clock timeout (getD ws (2304 + getD ws (i + 1024) 0) 0)) 6
     (cond (leb wait (clock - getD ws (i + 1280) 0) && ltb (suc (getD ws (i + 1280) 0)) (getD ws (2560 + getD ws (i + 1024) 0) 0)) 7 0)
     → v ≡ sweep-reason clock timeout (window-of ws) (getD (window-of ws .queue .pending) i blank)
@@ -51,22 +51,22 @@ shared-slice-read-o : tie.Need-shared-slice-read-o Inv-loop μ-loop
 shared-slice-read-o c = omega (arith, pending-few (c .before .before .before .before .args .words .now))
 
 add-start : tie.Need-add-start Inv-loop μ-loop
-add-start c = omega (arith, seat-at (c .before .before .before .before .args .words .now) (c .before .before .loop .i) (omega arith) (sound-owned _ _ (c .before .before .before .before .pre .1 .1 .1)))
+add-start c = omega (arith, seat-at (c .before .before .before .before .args .words .now) (c .before .before .loop .i) (omega arith) (c .before .before .before .before .pre .1 .1 .1 .0))
 
 mul-start : tie.Need-mul-start Inv-loop μ-loop
-mul-start c = omega (arith, seat-at (c .before .before .before .before .args .words .now) (c .before .before .loop .i) (omega arith) (sound-owned _ _ (c .before .before .before .before .pre .1 .1 .1)))
+mul-start c = omega (arith, seat-at (c .before .before .before .before .args .words .now) (c .before .before .loop .i) (omega arith) (c .before .before .before .before .pre .1 .1 .1 .0))
 
 shared-slice-read-start : tie.Need-shared-slice-read-start Inv-loop μ-loop
-shared-slice-read-start c = omega (arith, seat-at (c .before .before .before .before .before .args .words .now) (c .before .before .before .loop .i) (omega arith) (sound-owned _ _ (c .before .before .before .before .before .pre .1 .1 .1)))
+shared-slice-read-start c = omega (arith, seat-at (c .before .before .before .before .before .args .words .now) (c .before .before .before .loop .i) (omega arith) (c .before .before .before .before .before .pre .1 .1 .1 .0))
 
 add-body : tie.Need-add-body Inv-loop μ-loop
-add-body c = omega (arith, seat-at (c .before .before .before .before .before .args .words .now) (c .before .before .before .loop .i) (omega arith) (sound-owned _ _ (c .before .before .before .before .before .pre .1 .1 .1)))
+add-body c = omega (arith, seat-at (c .before .before .before .before .before .args .words .now) (c .before .before .before .loop .i) (omega arith) (c .before .before .before .before .before .pre .1 .1 .1 .0))
 
 mul-body : tie.Need-mul-body Inv-loop μ-loop
-mul-body c = omega (arith, seat-at (c .before .before .before .before .before .args .words .now) (c .before .before .before .loop .i) (omega arith) (sound-owned _ _ (c .before .before .before .before .before .pre .1 .1 .1)))
+mul-body c = omega (arith, seat-at (c .before .before .before .before .before .args .words .now) (c .before .before .before .loop .i) (omega arith) (c .before .before .before .before .before .pre .1 .1 .1 .0))
 
 shared-slice-read-body : tie.Need-shared-slice-read-body Inv-loop μ-loop
-shared-slice-read-body c = omega (arith, seat-at (c .before .before .before .before .before .before .args .words .now) (c .before .before .before .before .loop .i) (omega arith) (sound-owned _ _ (c .before .before .before .before .before .before .pre .1 .1 .1)))
+shared-slice-read-body c = omega (arith, seat-at (c .before .before .before .before .before .before .args .words .now) (c .before .before .before .before .loop .i) (omega arith) (c .before .before .before .before .before .before .pre .1 .1 .1 .0))
 
 add-sweep-mark : tie.Need-add-sweep-mark Inv-loop μ-loop
 add-sweep-mark c = omega (arith, pending-few (c .before .before .before .before .before .before .args .words .now))
@@ -78,9 +78,7 @@ shared-slice-read-sweep-mark : tie.Need-shared-slice-read-sweep-mark Inv-loop μ
 shared-slice-read-sweep-mark c = omega (arith, pending-few (c .before .before .before .before .before .before .before .args .words .now))
 
 sweep-mark-requires : tie.Need-sweep-mark-requires Inv-loop μ-loop
-sweep-mark-requires c κs =
-    let g = c .before .before .before .before .before .before .before .pre .1 .1 .1 in
-    (g .clock, omega (arith, g .clock, time-le (c .before .before .before .before .before .before .before .args .words .now) (c .before .before .before .before .before .loop .i) (omega arith) (c .before .before .before .before .before .before .before .args .clock) g))
+sweep-mark-requires c κs = (c .before .before .before .before .before .before .before .pre .1 .1 .1 .1, time-le (c .before .before .before .before .before .before .before .args .words .now) (c .before .before .before .before .before .loop .i) (omega arith) (c .before .before .before .before .before .before .before .pre .1 .1 .1 .0))
 
 mul-marks : tie.Need-mul-marks Inv-loop μ-loop
 mul-marks c = omega (arith, pending-few (c .before .before .before .before .before .before .before .before .args .words .now))
@@ -100,7 +98,7 @@ loop-again c =
     let a = c .before .before .before .before .before .before .before .before .args in
     let ws = a .words .now in
     let h : v .i < length (window-of ws .queue .pending) = omega arith in
-    let is = marked ws (v .i) (a .clock) (a .timeout) (a .wait) (c .sweep-mark .result) h (sound-owned _ _ (c .before .before .before .before .before .before .before .before .pre .1 .1 .1)) (c .before .before .before .before .before .before .before .before .pre .1 .1 .0) (c .sweep-mark .ensures) in
+    let is = marked ws (v .i) (a .clock) (a .timeout) (a .wait) (c .sweep-mark .result) h (c .before .before .before .before .before .before .before .before .pre .1 .1 .1 .0) (c .before .before .before .before .before .before .before .before .pre .1 .1 .0) (c .sweep-mark .ensures) in
     rw add-one (omega arith, (simp length-set (v .inv .1 .0), marks-step _ (window-of ws .queue .pending) (v .marks) (v .i) (c .sweep-mark .result) blank h (omega (arith, pending-few ws)) (v .inv .1 .1) is))
 
 returns : tie.Need-returns Inv-loop μ-loop
