@@ -72,13 +72,3 @@ fn reset_all(words: &mut [u64], gone: &[u64], n: usize, clock: u64, left: &[u64;
         i += 1;
     }
 }
-
-// `resets`, over what went.
-pub fn reset_gone(words: &mut [u64], gone: &[u64], n: usize, clock: u64)
-    requires { ⌜ Whole (now words) × (Ranged (window-of (now words)) × ((length (now gone) ≡ 2304) × ((n ≤ 256) × ((clock ≤ max-clock) × Went (InRange max-clock) (releases-of n (now gone)))))) ⌝ }
-    ensures { λ _. ⌜ Holds (with-queue (resets clock (releases-of n (now (gone .entry))) (window-of (now (words .entry)) .queue)) (window-of (now (words .entry)))) (now (words .exit)) ⌝ }
-{
-    let count = state::pending_len(words) as usize;
-    let left = oldest_left(words, count);
-    reset_all(words, gone, n, clock, &left);
-}
