@@ -1,13 +1,13 @@
 -- A column is its live elements with z in the places up to n. What an operation does to the column, it does to the live elements: no contract has to
 -- name how many are live. Assumes nothing.
 use mathlib.Core.Path.{_≡_, refl, sym, ap, _∙_}
-use mathlib.Core.List.{List, [], _∷_, _++_, append-assoc, append-nil}
-use Prim.Native.Nat.{ℕ, zero, suc, _+_, _-_, _≤_, _<_, zero-le, suc-le-suc}
-use native.Mathlib.Nat.{le-of-suc-le-suc, not-suc-le-zero, suc-sub-suc}
+use mathlib.Core.List.{List, [], _∷_, _++_, append-assoc}
+use Prim.Native.Nat.{ℕ, zero, suc, _+_, _-_, _≤_, _<_}
+use native.Mathlib.Nat.{le-of-suc-le-suc, not-suc-le-zero}
 use native.Mathlib.Omega.{arith}
 use lib.ListN.{length, take, drop, replicate, length-append, length-replicate, replicate-append-replicate}
-use lib.Seq.{take-append-seam, take-at}
-use Rattle.model.specs.Lists.{removeAt, insertAt, inserted, keptIf, keepBy, keptBy, pad}
+use lib.Seq.{take-at}
+use Rattle.model.specs.Lists.{removeAt, insertAt, inserted, keepBy, keptBy, pad}
 use Rattle.column.proofs.Laws.{length-kept, length-inserted}
 
 module _ {A : Type 0} where

@@ -11,12 +11,12 @@ pub fn remove_at(col: &mut [u64], at: usize)
     requires { ⌜ at < length (now col) ⌝ }
     ensures { λ _. ⌜ now (col .exit) ≡ removeAt at (now (col .entry)) ++ (0 ∷ []) ⌝ }
 {
-    let mut i = at;
-    while i + 1 < col.len() {
-        col[i] = col[i + 1];
-        i += 1;
+    let mut k = at;
+    while k + 1 < col.len() {
+        col[k] = col[k + 1];
+        k += 1;
     }
-    col[i] = 0;
+    col[k] = 0;
 }
 
 // Copies `src` over `dst`, which is as long.
@@ -31,18 +31,19 @@ pub fn copy_over(dst: &mut [u64], src: &[u64])
     }
 }
 
-// Puts `value` at `at`: the words from there on move one place up, and the last falls off.
+// Puts `value` at `at`: the words from there on move one place up, and the last falls off. From the end down, so that it is one move of memory.
 pub fn insert_at(col: &mut [u64], at: usize, value: u64)
     requires { ⌜ at ≤ length (now col) ⌝ }
     ensures { λ _. ⌜ now (col .exit) ≡ inserted at value (now (col .entry)) ⌝ }
 {
-    let mut carry = value;
-    let mut i = at;
-    while i < col.len() {
-        let next = col[i];
-        col[i] = carry;
-        carry = next;
-        i += 1;
+    let mut i = col.len();
+    if at < i {
+        i -= 1;
+        while at < i {
+            col[i] = col[i - 1];
+            i -= 1;
+        }
+        col[i] = value;
     }
 }
 

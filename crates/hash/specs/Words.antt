@@ -1,12 +1,12 @@
 -- Comparing two numbers word by word: the laws about the model's `wide` and `key`. Assumes nothing.
-use mathlib.Core.Path.{_≡_, refl, sym, ap}
-use mathlib.Core.Logic.{_⊎_, inl, inr}
-use mathlib.Core.Bool.{Bool, true, false}
+use mathlib.Core.Path.{_≡_, refl, sym}
+use mathlib.Core.Logic.{inl, inr}
+use mathlib.Core.Bool.{true}
 use Prim.Native.Nat.{ℕ, _+_, _*_, _<_}
 use native.Mathlib.Omega.{arith}
 use lib.Dec.{eqb, ltb}
 use borrow.Author.Tests.{ltb-true, ltb-false, lt-ltb, le-ltb, eq-eqb, ne-eqb, eqb-true, eqb-false}
-use Rattle.model.specs.Hash.{base, wide, key, hash, same, less}
+use Rattle.model.specs.Hash.{base, wide, key, hash, same}
 use Rattle.model.specs.declared.Hash.{Hash}
 use Rattle.laws.specs.Numbers.{both}
 

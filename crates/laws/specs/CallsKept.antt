@@ -1,28 +1,22 @@
 -- Deliveries, rejections and the smaller calls of 01's module 9 keep a window sound; and so does an opening. Assumes nothing.
-use mathlib.Core.Path.{_≡_, refl, sym, ap, _∙_}
-use mathlib.Core.Logic.{_⊎_, inl, inr}
-use mathlib.Core.Bool.{Bool, true, false, cond, not, _&&_, _||_}
-use mathlib.Core.List.{List, [], _∷_, _++_}
-use Prim.Native.Nat.{ℕ, zero, suc, _+_, _-_, _*_, _/_, _≤_, _<_}
+use mathlib.Core.Path.{_≡_, refl}
+use mathlib.Core.Logic.{inl, inr}
+use mathlib.Core.Bool.{true, _&&_, _||_}
+use mathlib.Core.List.{List}
+use Prim.Native.Nat.{ℕ, suc, _+_, _-_, _*_, _/_, _≤_}
 use native.Mathlib.Omega.{arith}
-use lib.ListN.{length, getD, set}
-use lib.Dec.{eqb, ltb, leb}
+use lib.Dec.{eqb}
 use Rattle.model.specs.Numbers.{max-clock, max-seat, max-body, min-estimate, max-estimate}
 use Rattle.model.specs.Hash.{same}
 use Rattle.model.specs.Records.{found, sum}
 use Rattle.model.specs.Seats.{oldest}
-use Rattle.model.specs.Pace.{was-front, front-recorded}
+use Rattle.model.specs.Pace.{was-front}
 use Rattle.model.specs.Layout.{settings-ok}
-use Rattle.model.specs.LettingGo.{remove-pending}
-use Rattle.model.specs.Window.{Window, Queue, Step, stay, and-then, after, with-queue, with-mean, with-fanout, with-cold, with-preferred, with-stall, with-pace, with-observation, without-probe, no-seats}
-use Rattle.model.specs.Races.{resolve-cold-front-delivery, record-prefix-probe-delivery}
+use Rattle.model.specs.Window.{Window, with-mean}
+use Rattle.model.specs.Races.{record-prefix-probe-delivery}
 use Rattle.model.specs.Calls.{opened, unless-observed, credit-duplicate-delivery, unless-stalled, record-delivery-progress, progress-by, body-noted, credit-delivery-from, height-of, credit-by, next-mean, mark-received-from, unless-front, is-owner, rejected-by, reject-delivery, engages, set-fanout-eligible-peers, clear-preferred-peer}
 use Rattle.model.specs.declared.Hash.{Hash}
-use Rattle.model.specs.declared.Entry.{Entry}
 use Rattle.model.specs.declared.Settings.{Settings}
-use Rattle.model.specs.declared.Fanout.{Fanout}
-use Rattle.model.specs.declared.Front.{Front}
-use Rattle.model.specs.declared.Front.the-variants.{Nothing, At}
 use Rattle.model.specs.declared.Source.{Source}
 use Rattle.model.specs.declared.Source.the-variants.{Missing, From}
 use Rattle.model.specs.declared.Height.{Height}
@@ -34,7 +28,7 @@ use Rattle.model.specs.declared.ColdFront.the-variants.{Idle, Waiting, Racing}
 use Rattle.model.specs.declared.Observation.{Observation}
 use Rattle.model.specs.declared.Observation.the-variants.{Unarmed, Armed, Swept}
 use Rattle.laws.specs.Numbers.{both, second-le-greater, greater-le}
-use Rattle.laws.specs.Sound.{Bounded, SoundQueue, NoLower, SoundCold, SoundStall, SoundObservation, Sound}
+use Rattle.laws.specs.Sound.{Bounded, SoundCold, SoundStall, SoundObservation, Sound}
 use Rattle.laws.specs.Parts.{bounded-set, bounded-none, no-seats-at, sound-mean, sound-queue, sound-fanout, sound-cold, sound-preferred, sound-pace, sound-no-probe, sound-stall, sound-observation}
 use Rattle.laws.specs.Lets.{Lets, Steady, lets-stay, lets-then, lets-after, steady-lets, steady-then, remove-lets}
 use Rattle.laws.specs.RacesKept.{probe-lets, resolve-lets}

@@ -1,18 +1,15 @@
 -- Laws of the entries: what an insertion, a removal and a sifting do to every weight, to the order and to the oldest times. Assumes nothing.
-use mathlib.Core.Path.{_≡_, refl, sym, ap, _∙_}
-use mathlib.Core.Logic.{_⊎_, inl, inr}
-use mathlib.Core.Bool.{Bool, true, false, cond, not}
+use mathlib.Core.Path.{_≡_, refl, ap}
+use mathlib.Core.Logic.{inl, inr}
+use mathlib.Core.Bool.{false, cond}
 use mathlib.Core.List.{List, [], _∷_, _++_}
 use Prim.Native.Nat.{ℕ, zero, suc, _+_, _-_, _≤_, _<_}
 use native.Mathlib.Omega.{arith}
-use lib.Dec.{eqb, ltb, leb}
-use lib.ListN.{length}
-use borrow.Author.Tests.{eqb-true, eqb-false, ltb-true, ltb-false, leb-true, leb-false, eq-eqb, ne-eqb}
-use Rattle.model.specs.Numbers.{lesser}
+use lib.Dec.{eqb, ltb}
+use borrow.Author.Tests.{eqb-true, ltb-true, ltb-false, eq-eqb, ne-eqb}
 use Rattle.model.specs.Hash.{key, same, less}
-use Rattle.model.specs.Records.{insert, remove, found, is-there, sum, lowest, lower}
+use Rattle.model.specs.Records.{insert, remove, found, sum}
 use Rattle.model.specs.Seats.{sooner, oldest}
-use Rattle.model.specs.Reasons.{release}
 use Rattle.model.specs.LettingGo.{if-gone, if-kept, gone, kept}
 use Rattle.model.specs.declared.Hash.{Hash}
 use Rattle.model.specs.declared.Entry.{Entry}
@@ -20,7 +17,7 @@ use Rattle.model.specs.declared.Release.{Release}
 use Rattle.model.specs.declared.Front.{Front}
 use Rattle.model.specs.declared.Front.the-variants.{Nothing, At}
 use Rattle.laws.specs.Numbers.{both, lesser-le-first, lesser-le-second, le-lesser}
-use Rattle.laws.specs.Bag.{weigh, one, Same, Pick, here, there, pick-weigh, weigh-append}
+use Rattle.laws.specs.Bag.{weigh, one, Pick, here, there, pick-weigh}
 
 -- ---- weights
 

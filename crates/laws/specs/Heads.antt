@@ -1,18 +1,17 @@
 -- The head, group by group: what a window's words say is what the window has, and words that pass the test are the words of what they say.
 -- Assumes nothing.
 use mathlib.Core.Path.{_≡_, refl, sym, ap, _∙_}
-use mathlib.Core.Logic.{_⊎_, inl, inr}
-use mathlib.Core.Bool.{Bool, true, false, cond, _&&_, false≢true}
+use mathlib.Core.Bool.{Bool, true, false}
 use mathlib.Core.List.{List, [], _∷_, _++_}
 use Prim.Native.Nat.{ℕ, zero, suc, _+_, _-_, _*_, _≤_, _<_}
 use native.Mathlib.Omega.{arith}
-use lib.ListN.{length, getD, take, drop, replicate, length-append, length-take, length-drop, length-replicate, take-append-drop}
+use lib.ListN.{length, getD, take, drop, replicate, length-append, length-drop, length-replicate, take-append-drop}
 use lib.Seq.{take-at, drop-at, drop-drop, drop-cons, take-add, getD-take, getD-drop, length-take-le}
-use lib.Dec.{eqb, leb, ltb}
-use borrow.Author.Tests.{eqb-true, eq-eqb}
+use lib.Dec.{eqb}
+use borrow.Author.Tests.{eqb-true}
 use Rattle.model.specs.Lists.{pad, all}
 use Rattle.model.specs.Hash.{hash, hash-words, hashes-in, hashes-words}
-use Rattle.model.specs.Layout.{Table, word, words-at, hash-at, is-0, zeros, source-word, source-of, flag-word, stall-words, stall-of, stuck-words, stuck-of, cold-words, cold-of, observation-words, observation-of, probe-words, probe-of}
+use Rattle.model.specs.Layout.{Table, word, words-at, hash-at, is-0, source-word, source-of, flag-word, stall-words, stall-of, stuck-words, stuck-of, cold-words, cold-of, observation-words, observation-of, probe-words, probe-of}
 use Rattle.model.specs.declared.Hash.{Hash}
 use Rattle.model.specs.declared.Source.{Source}
 use Rattle.model.specs.declared.Source.the-variants.{Missing, From}
@@ -26,7 +25,6 @@ use Rattle.model.specs.declared.Probe.{Probe}
 use Rattle.model.specs.declared.Probe.the-variants.{NoProbe, Probing}
 use Rattle.model.specs.declared.Observation.{Observation}
 use Rattle.model.specs.declared.Observation.the-variants.{Unarmed, Armed, Swept}
-use Rattle.laws.specs.Numbers.{both}
 use Rattle.laws.specs.Every.{and-so, all-first, all-rest}
 
 -- ---- parts of a list
@@ -60,9 +58,13 @@ cut k n m l e = sym (take-append-drop n (drop k l)) ∙ ap (λ (r : List ℕ). t
 
 -- ---- zeros
 
-pub zeros-are : (l : List ℕ) → all is-0 l ≡ true → l ≡ replicate (length l) 0
+zeros-are : (l : List ℕ) → all is-0 l ≡ true → l ≡ replicate (length l) 0
 zeros-are [] e = refl
 zeros-are (x ∷ l) e = λ i. eqb-true x 0 (all-first is-0 x l e) i ∷ zeros-are l (all-rest is-0 x l e) i
+
+-- n numbers that are all 0
+pub nought : (l : List ℕ) (n : ℕ) → length l ≡ n → all is-0 l ≡ true → replicate n 0 ≡ l
+nought l n k z = ap (λ (m : ℕ). replicate m 0) (sym k) ∙ sym (zeros-are l z)
 
 pub all-zeros : (n : ℕ) → all is-0 (replicate n 0) ≡ true
 unfolding all
@@ -118,7 +120,7 @@ padded-back m n l k h z =
     let p = hashes-first n l (omega arith) .0 in
     let rest : length (drop (4 * n) l) ≡ m - 4 * n = length-drop (4 * n) l ∙ omega arith in
     rw (p, length-take-le (4 * n) l (omega arith))
-    (ap (λ (r : List ℕ). take (4 * n) l ++ r) (ap (λ (j : ℕ). replicate j 0) (sym rest) ∙ sym (zeros-are (drop (4 * n) l) z)) ∙ take-append-drop (4 * n) l)
+    (ap (λ (r : List ℕ). take (4 * n) l ++ r) (nought (drop (4 * n) l) (m - 4 * n) rest z) ∙ take-append-drop (4 * n) l)
 
 -- 0 after the hashes
 pub padded-zero : (m : ℕ) (hs : List Hash) → all is-0 (drop (4 * length hs) (pad m 0 (hashes-words hs))) ≡ true
@@ -208,10 +210,6 @@ module _ (t : Table) where
       λ i. probe-of (at 0 (omega arith) i) (at 1 (omega arith) i) (at 3 (omega arith) i)
 
 -- ---- the words of what a group says
-
--- numbers that are all 0
-nought : (l : List ℕ) (n : ℕ) → length l ≡ n → all is-0 l ≡ true → replicate n 0 ≡ l
-nought l n k z = ap (λ (m : ℕ). replicate m 0) (sym k) ∙ sym (zeros-are l z)
 
 pub stall-said : (a b c d e f : ℕ) → (a ≡ 0 → all is-0 (a ∷ b ∷ c ∷ d ∷ e ∷ f ∷ []) ≡ true) → stall-words (stall-of a b (hash c d e f)) ≡ a ∷ b ∷ c ∷ d ∷ e ∷ f ∷ []
 stall-said zero b c d e f z = nought _ 6 refl (z refl)

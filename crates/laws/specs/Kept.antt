@@ -1,29 +1,25 @@
 -- EVERY CALL KEEPS A WINDOW SOUND: an accepted opening makes a sound window, an accepted change of a sound window leaves one. Assumes nothing.
-use mathlib.Core.Path.{_≡_, refl, sym, ap, _∙_}
-use mathlib.Core.Logic.{_⊎_, inl, inr}
-use mathlib.Core.Bool.{Bool, true, false, cond, not, _&&_, _||_}
-use mathlib.Core.List.{List, [], _∷_, _++_}
-use Prim.Native.Nat.{ℕ, zero, suc, _+_, _≤_, _<_}
+use mathlib.Core.Path.{_≡_, refl}
+use mathlib.Core.Bool.{Bool, true, false}
+use mathlib.Core.List.{List, [], _∷_}
+use Prim.Native.Nat.{ℕ, zero, suc, _+_, _≤_}
 use native.Mathlib.Omega.{arith}
 use lib.ListN.{length, getD}
-use lib.Dec.{eqb, leb}
+use lib.Dec.{leb}
 use borrow.Author.Tests.{eqb-true, leb-true}
 use Rattle.model.specs.Numbers.{max-clock, max-height, max-seat, max-body, max-pending, clock-ok, read-clock}
-use Rattle.model.specs.Lists.{all, every}
-use Rattle.model.specs.Window.{Window, with-clock}
-use Rattle.model.specs.Records.{found}
-use Rattle.model.specs.Calls.{Ask, asks-in, opened, mark-requested, owned-fetch, mark-owned-fetch, mark-received-from}
-use Rattle.model.specs.Observation.{Look}
-use Rattle.model.specs.Layout.{settings-ok, is-window, window-of}
-use Rattle.model.specs.Refusals.{Change, Call, opens, changes, queries, Moment, timeless, at, Checks, checks, query-checks, test, seat-ok, source-ok, keys-ok, alternates-ok, listed-once, list-ok, request-refusal, body-refusal, moment-ok, report-ok, refusal-at, is-long, window-refusal, opening-refusal, refusal, requests, fetches, receives, credits, credits-duplicate, rejects, expires, requeues, releases, retires, retains, marks-unresponsive, confirms-probe, confirms-hedge, observes, sets-fanout, clears-preferred}
-use Rattle.model.specs.Perform.{Deed, change, moment-of, changed, requested, observed}
-use Rattle.model.specs.declared.Hash.{Hash}
+use Rattle.model.specs.Lists.{all}
+use Rattle.model.specs.Window.{Window}
+use Rattle.model.specs.Calls.{Ask, asks-in, opened}
+use Rattle.model.specs.Layout.{settings-ok}
+use Rattle.model.specs.Refusals.{Change, Call, opens, changes, queries, Moment, timeless, at, Checks, checks, test, seat-ok, keys-ok, list-ok, request-refusal, body-refusal, moment-ok, report-ok, refusal-at, is-long, opening-refusal, requests, fetches, receives, credits, credits-duplicate, rejects, expires, requeues, releases, retires, retains, marks-unresponsive, confirms-probe, confirms-hedge, observes, sets-fanout, clears-preferred}
+use Rattle.model.specs.Perform.{change, moment-of, changed, requested, observed}
 use Rattle.model.specs.declared.Settings.{Settings}
-use Rattle.laws.specs.Numbers.{both, and-left, and-right}
+use Rattle.laws.specs.Numbers.{and-left, and-right}
 use Rattle.laws.specs.Every.{hold, all-first, all-rest}
-use Rattle.laws.specs.Sound.{Bounded, Sound}
+use Rattle.laws.specs.Sound.{Sound}
 use Rattle.laws.specs.Parts.{later, sound-clock}
-use Rattle.laws.specs.Lets.{Lets, Steady, requeue-lets, release-lets, retire-lets, expire-lets, retain-owned-lets}
+use Rattle.laws.specs.Lets.{requeue-lets, release-lets, retire-lets, expire-lets, retain-owned-lets}
 use Rattle.laws.specs.RacesKept.{unresponsive-steady, confirm-steady, hedge-steady}
 use Rattle.laws.specs.RequestsKept.{Free, Once, Low, free-is, once-is, requested-sound, owned-fetch-sound}
 use Rattle.laws.specs.CallsKept.{opened-sound, duplicate-steady, credit-lets, received-lets, reject-lets, fanout-steady, preferred-steady}
@@ -115,11 +111,11 @@ requestable-is l w q =
       room = omega (arith, leb-true (length (w .queue .pending) + length l) max-pending (b .0));
     }
 
-body-le : (bytes : ℕ) (w : Window) → body-refusal bytes w ≡ 0 → bytes ≤ max-body
+pub body-le : (bytes : ℕ) (w : Window) → body-refusal bytes w ≡ 0 → bytes ≤ max-body
 unfolding body-refusal
 body-le bytes w q = leb-true bytes max-body (passed 8 (leb bytes max-body) 0 q .0)
 
-seat-le : (s : ℕ) → seat-ok s ≡ true → s ≤ max-seat
+pub seat-le : (s : ℕ) → seat-ok s ≡ true → s ≤ max-seat
 seat-le s q = leb-true s max-seat q
 
 -- ---- a change, at its moment

@@ -1,26 +1,24 @@
 -- 01's module 7 keeps a window sound, and what goes is picked out of the pending entries. Steps run at the clock c of the soundness. Assumes nothing.
-use mathlib.Core.Path.{_≡_, refl, sym, ap, _∙_}
-use mathlib.Core.Logic.{_⊎_, inl, inr}
-use mathlib.Core.Bool.{Bool, true, false, cond, not, _&&_, _||_}
-use mathlib.Core.List.{List, [], _∷_, _++_}
-use Prim.Native.Nat.{ℕ, zero, suc, _+_, _-_, _≤_, _<_}
+use mathlib.Core.Path.{_≡_, refl, _∙_}
+use mathlib.Core.Logic.{inl, inr}
+use mathlib.Core.Bool.{Bool, not, _&&_, _||_}
+use mathlib.Core.List.{List, [], _∷_}
+use Prim.Native.Nat.{ℕ, suc, _-_, _≤_}
 use native.Mathlib.Omega.{arith}
-use lib.ListN.{length, getD}
-use lib.Dec.{eqb, ltb, leb}
-use Rattle.model.specs.Numbers.{lesser, max-height, max-seat, present}
-use Rattle.model.specs.Lists.{any, count, select}
+use lib.Dec.{ltb}
+use Rattle.model.specs.Numbers.{present}
+use Rattle.model.specs.Lists.{any, count}
 use Rattle.model.specs.Hash.{key}
-use Rattle.model.specs.Records.{found, remove}
+use Rattle.model.specs.Records.{remove}
 use Rattle.model.specs.Seats.{reset-owner-queue-start, keep-seats}
 use Rattle.model.specs.Time.{effective-owner-timeout, active}
 use Rattle.model.specs.Reasons.{lowered, lowers, release}
-use Rattle.model.specs.Window.{Window, Queue, queue, Step, stay, and-then, after, with-queue, with-frontier, with-preferred, with-attempted, with-cold}
-use Rattle.model.specs.LettingGo.{without, take-out, remove-pending, release-pending, lower-to, requeue-for-retry, retire-all, retire-before, gone, kept, total-after, frontier-after, extract, sweep-reason, is-entry, marked-swept, resets, swept, expire-pending, observation-kept, lost-reason, seats-kept, retain-peer-assignments, cold-kept, peer-kept, probe-kept, roles-kept, flagged, retain-owned-by}
+use Rattle.model.specs.Window.{Window, Queue, queue, Step, stay, and-then, after}
+use Rattle.model.specs.LettingGo.{without, take-out, remove-pending, release-pending, lower-to, requeue-for-retry, retire-all, retire-before, gone, kept, total-after, frontier-after, extract, sweep-reason, is-entry, marked-swept, resets, expire-pending, observation-kept, lost-reason, seats-kept, retain-peer-assignments, cold-kept, peer-kept, probe-kept, roles-kept, flagged, retain-owned-by}
 use Rattle.model.specs.declared.Hash.{Hash}
 use Rattle.model.specs.declared.Entry.{Entry}
 use Rattle.model.specs.declared.Release.{Release}
 use Rattle.model.specs.declared.Front.{Front}
-use Rattle.model.specs.declared.Front.the-variants.{Nothing, At}
 use Rattle.model.specs.declared.Source.{Source}
 use Rattle.model.specs.declared.Source.the-variants.{Missing, From}
 use Rattle.model.specs.declared.Height.{Height}
@@ -32,11 +30,10 @@ use Rattle.model.specs.declared.Probe.the-variants.{NoProbe, Probing}
 use Rattle.model.specs.declared.Observation.{Observation}
 use Rattle.model.specs.declared.Observation.the-variants.{Unarmed, Armed, Swept}
 use Rattle.laws.specs.Numbers.{both, lesser-le-first}
-use Rattle.laws.specs.Bag.{Pick}
-use Rattle.laws.specs.Entries.{with-hash, rising-one, remove-pick, Finding, missing, at, found-is, Picks, done, more, picks-append, sift}
+use Rattle.laws.specs.Entries.{rising-one, remove-pick, Finding, missing, at, found-is, Picks, done, more, picks-append, sift}
 use Rattle.laws.specs.Sound.{Bounded, SoundSource, SoundCold, SoundProbe, SoundObservation, Sound}
 use Rattle.laws.specs.Parts.{bounded-keep, sound-frontier, sound-queue, sound-cold, sound-preferred, sound-attempted, sound-probe, sound-no-probe, sound-observation}
-use Rattle.laws.specs.Queues.{resets-pending, queue-outs, outs-lower, queue-keeps, keeps-lower}
+use Rattle.laws.specs.Queues.{resets-pending, after-outs, queue-outs, outs-lower, queue-keeps, keeps-lower}
 
 -- a step from w that may let go
 pub record Lets (c : ℕ) (w : Window) (s : Step) : Type 0 where
@@ -72,7 +69,7 @@ unfolding lowered
 lowered-le r h f = elim (both (lowers r)) [ inl q ↦ rw q (lesser-le-first f h) | inr q ↦ rw q (omega arith) ]
 
 without-is : (c r : ℕ) (e : Entry) (q : Queue) (m : List Entry) → remove (e .hash) (q .pending) ≡ m
-    → reset-owner-queue-start (e .owner) (e .time) c (without e q) ≡ resets c (release e r ∷ []) (queue (total-after (release e r ∷ []) (q .total)) m (q .starts) (q .bodies))
+    → reset-owner-queue-start (e .owner) (e .time) c (without e q) ≡ after-outs c (release e r ∷ []) m q
 unfolding without resets total-after
 without-is c r e q m z = rw z
 

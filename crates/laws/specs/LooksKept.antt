@@ -1,23 +1,22 @@
 -- 01's module 10 keeps a window sound, and lets nothing go. Assumes nothing.
-use mathlib.Core.Path.{_≡_, refl, sym, ap, _∙_}
-use mathlib.Core.Logic.{_⊎_, inl, inr}
-use mathlib.Core.Bool.{Bool, true, false, cond, not, _&&_, _||_}
+use mathlib.Core.Path.{refl, _∙_}
+use mathlib.Core.Logic.{inl, inr}
+use mathlib.Core.Bool.{Bool, true, false, cond, _&&_, _||_}
 use mathlib.Core.List.{List, [], _∷_}
-use Prim.Native.Nat.{ℕ, zero, suc, _+_, _-_, _*_, _≤_, _<_}
+use Prim.Native.Nat.{ℕ, _-_, _≤_}
 use native.Mathlib.Omega.{arith}
 use lib.ListN.{length}
 use lib.Dec.{eqb, ltb, leb}
-use Rattle.model.specs.Numbers.{max-seat, max-height, present}
+use Rattle.model.specs.Numbers.{max-height, present}
 use Rattle.model.specs.Lists.{select}
 use Rattle.model.specs.Hash.{same}
 use Rattle.model.specs.Records.{lower, lowest, at-height, found}
 use Rattle.model.specs.Time.{active, owner-download-expired}
 use Rattle.model.specs.Pace.{effective-stall-timeout, wait-widened}
-use Rattle.model.specs.Cooling.{mark-peer-unresponsive}
-use Rattle.model.specs.Window.{Window, with-cold, with-stall, with-stuck, with-observation, with-pace}
+use Rattle.model.specs.Window.{Window, with-cold, with-stuck}
 use Rattle.model.specs.Races.{wait-on, cold-at, is-racing, advance-cold-front, max-hedges}
-use Rattle.model.specs.Observation.{Look, Eviction, StuckStep, stuck-anew, stuck-still, evicted-by, advance-apply-side-stuck, blocks, stalled-since, Blame, stall-at, stall-by, advance-stall, still-owned, armed-by, lowest-expired, timeout-by, advance-pending-timeout, Seen, Decision, timeout-seen, stall-seen, busy-seen, idle-seen, observe-at, observe-blocked, evict-says, none}
-use Rattle.model.specs.Races.{Hedge, no-hedge}
+use Rattle.model.specs.Observation.{Look, stuck-anew, stuck-still, evicted-by, advance-apply-side-stuck, blocks, stalled-since, stall-at, stall-by, advance-stall, still-owned, armed-by, lowest-expired, timeout-by, advance-pending-timeout, Decision, stall-seen, busy-seen, idle-seen, observe-at, observe-blocked, evict-says, none}
+use Rattle.model.specs.Races.{Hedge}
 use Rattle.model.specs.declared.Hash.{Hash}
 use Rattle.model.specs.declared.Entry.{Entry}
 use Rattle.model.specs.declared.Front.{Front}
@@ -40,7 +39,7 @@ use Rattle.laws.specs.Numbers.{both}
 use Rattle.laws.specs.Entries.{Each}
 use Rattle.laws.specs.Sound.{InRange, SoundCold, SoundStall, SoundStuck, SoundObservation, Sound}
 use Rattle.laws.specs.Parts.{sound-cold, sound-pace, sound-stall, sound-stuck, sound-observation}
-use Rattle.laws.specs.Lets.{Steady, steady-then}
+use Rattle.laws.specs.Lets.{Steady}
 use Rattle.laws.specs.PaceKept.{widened-sound}
 use Rattle.laws.specs.RacesKept.{unresponsive-steady}
 

@@ -1,13 +1,13 @@
 -- Laws about the model's `Numbers`: lesser and greater, rounding up, times that may be missing. Assumes nothing.
 use mathlib.Core.Path.{_≡_, refl, sym, ap, _∙_}
 use mathlib.Core.Logic.{_⊎_, inl, inr}
-use mathlib.Core.Bool.{Bool, true, false, cond, not, _&&_}
-use Prim.Native.Nat.{ℕ, zero, suc, _+_, _-_, _*_, _/_, _≤_, _<_}
+use mathlib.Core.Bool.{Bool, true, false, cond, _&&_}
+use Prim.Native.Nat.{ℕ, suc, _+_, _-_, _*_, _/_, _≤_, _<_}
 use native.Mathlib.Nat.{add-div-right, div-eq-of-lt, mul-le-mul}
 use native.Mathlib.Omega.{arith}
 use lib.Dec.{eqb, leb}
-use borrow.Author.Tests.{le-leb, lt-leb, leb-true, leb-false, eq-eqb, ne-eqb, eqb-true, eqb-false, not-true, not-false}
-use Rattle.model.specs.Numbers.{lesser, greater, div-ceil, max-height, next-height, present, age}
+use borrow.Author.Tests.{le-leb, leb-true, leb-false, ne-eqb, eqb-true, eqb-false, not-true, not-false}
+use Rattle.model.specs.Numbers.{lesser, greater, div-ceil, max-clock, clock-ok, max-height, next-height, present, age}
 
 -- ---- tests
 
@@ -126,6 +126,20 @@ unfolding div-ceil
 div-ceil-pos a b p h =
     let e : a + (b - 1) ≡ a - 1 + b = omega arith in
     ap (λ (n : ℕ). n / b) e ∙ add-div-right (a - 1) h
+
+-- ---- clocks
+
+pub clock-ok-most : (last c : ℕ) → clock-ok last c ≡ true → c ≤ max-clock
+unfolding clock-ok
+clock-ok-most last c e = leb-true c max-clock (and-left (leb c max-clock) (leb last c) e)
+
+pub clock-ok-later : (last c : ℕ) → clock-ok last c ≡ true → last ≤ c
+unfolding clock-ok
+clock-ok-later last c e = leb-true last c (and-right (leb c max-clock) (leb last c) e)
+
+pub ok-clock : (last c : ℕ) → c ≤ max-clock → last ≤ c → clock-ok last c ≡ true
+unfolding clock-ok
+ok-clock last c p q = and-both (leb c max-clock) (leb last c) (le-leb c max-clock p) (le-leb last c q)
 
 -- ---- heights
 

@@ -1,14 +1,14 @@
 -- The pace stays in its ranges. Assumes nothing.
-use mathlib.Core.Path.{_≡_, refl, sym, ap, _∙_}
-use mathlib.Core.Logic.{_⊎_, inl, inr}
-use mathlib.Core.Bool.{Bool, true, false, cond}
-use Prim.Native.Nat.{ℕ, zero, suc, _+_, _-_, _*_, _/_, _≤_, _<_}
+use mathlib.Core.Path.{_≡_}
+use mathlib.Core.Logic.{inl, inr}
+use mathlib.Core.Bool.{true}
+use Prim.Native.Nat.{ℕ, zero, suc, _-_, _*_, _/_, _≤_}
 use native.Mathlib.Omega.{arith}
 use native.Mathlib.Nat.{div-le-self}
 use lib.Dec.{ltb, leb}
-use borrow.Author.Tests.{leb-true, leb-false}
+use borrow.Author.Tests.{leb-true}
 use Rattle.model.specs.Numbers.{max-clock, max-duration, max-front-mean, age, greater}
-use Rattle.model.specs.Pace.{sample-ms, nearer, mean-by, front-mean-by, front-mean, min-sample, twice-ns, decay-floor, stall-decay-floor, decayed, front-recorded, effective-stall-timeout, wait-widened, pace-opened}
+use Rattle.model.specs.Pace.{sample-ms, nearer, mean-by, front-mean-by, front-mean, min-sample, twice-ns, decay-floor, decayed, front-recorded, effective-stall-timeout, wait-widened, pace-opened}
 use Rattle.model.specs.Layout.{settings-ok}
 use Rattle.model.specs.declared.Pace.{Pace}
 use Rattle.model.specs.declared.Settings.{Settings}

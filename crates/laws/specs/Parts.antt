@@ -1,18 +1,16 @@
 -- Soundness part by part: what keeps 256 numbers bounded, a later clock, and a window of which one part is another. Assumes nothing.
-use mathlib.Core.Path.{_≡_, refl, sym, ap, _∙_}
-use mathlib.Core.Logic.{_⊎_, inl, inr}
-use mathlib.Core.Bool.{Bool, true, false, cond}
+use mathlib.Core.Path.{_≡_, refl, ap, _∙_}
+use mathlib.Core.Logic.{inl, inr}
+use mathlib.Core.Bool.{Bool, cond}
 use mathlib.Core.List.{List, [], _∷_, map}
-use Prim.Native.Nat.{ℕ, zero, suc, _+_, _≤_, _<_}
-use native.Mathlib.Nat.{zero-add, add-zero, add-suc, suc-add}
+use Prim.Native.Nat.{ℕ, zero, suc, _+_, _≤_}
+use native.Mathlib.Nat.{add-zero, add-suc, suc-add}
 use native.Mathlib.Omega.{arith}
 use lib.ListN.{length, getD, set, replicate, length-set, length-map, length-replicate}
-use lib.Dec.{eqb}
 use Rattle.model.specs.Numbers.{max-clock, max-height, min-estimate, max-estimate}
 use Rattle.model.specs.Seats.{keep-seats}
 use Rattle.model.specs.Window.{Window, Queue, HighWater, Races, Watch, with-clock, with-mean, with-frontier, with-high, with-queue, with-cooling, with-fanout, with-pace, with-races, with-watch, with-cold, with-hedged, with-preferred, with-attempted, with-probe, without-probe, with-stall, with-stuck, with-observation, no-seats}
 use Rattle.model.specs.declared.Hash.{Hash}
-use Rattle.model.specs.declared.Entry.{Entry}
 use Rattle.model.specs.declared.Pace.{Pace}
 use Rattle.model.specs.declared.Fanout.{Fanout}
 use Rattle.model.specs.declared.Source.{Source}
@@ -26,8 +24,8 @@ use Rattle.model.specs.declared.ColdFront.the-variants.{Idle, Waiting, Racing}
 use Rattle.model.specs.declared.Probe.{Probe}
 use Rattle.model.specs.declared.Probe.the-variants.{NoProbe, Probing}
 use Rattle.laws.specs.Numbers.{both}
-use Rattle.laws.specs.Entries.{Each, each-map}
-use Rattle.laws.specs.Sound.{Bounded, InRange, Seat, SoundQueue, NoLower, SoundPace, SoundSource, SoundCold, SoundProbe, SoundRaces, SoundStall, SoundStuck, SoundObservation, SoundWatch, Sound}
+use Rattle.laws.specs.Entries.{each-map}
+use Rattle.laws.specs.Sound.{Bounded, SoundQueue, NoLower, SoundPace, SoundSource, SoundCold, SoundProbe, SoundRaces, SoundStall, SoundStuck, SoundObservation, SoundWatch, Sound}
 
 -- ---- 256 bounded numbers
 
@@ -151,11 +149,25 @@ module _ {c : ℕ} {w : Window} (g : Sound c w) where
   pub sound-frontier : (f : ℕ) → f ≤ max-height → Sound c (with-frontier f w)
   sound-frontier f b = record { clock = g .clock; settings = g .settings; keys = g .keys; mean-least = g .mean-least; mean-most = g .mean-most; frontier = b; high = g .high; queue = g .queue; cooling = g .cooling; pace = g .pace; races = g .races; watch = g .watch }
 
-  pub sound-high : (h : HighWater) → NoLower h (w .queue) → Sound c (with-high h w)
-  sound-high h b = record { clock = g .clock; settings = g .settings; keys = g .keys; mean-least = g .mean-least; mean-most = g .mean-most; frontier = g .frontier; high = b; queue = g .queue; cooling = g .cooling; pace = g .pace; races = g .races; watch = g .watch }
+  -- both together, as a request raises the high waters with the queue
+  pub sound-filled : (q : Queue) (h : HighWater) → SoundQueue c q → NoLower h q → Sound c (with-high h (with-queue q w))
+  sound-filled q h k b = record {
+    clock = g .clock;
+    settings = g .settings;
+    keys = g .keys;
+    mean-least = g .mean-least;
+    mean-most = g .mean-most;
+    frontier = g .frontier;
+    high = b;
+    queue = k;
+    cooling = g .cooling;
+    pace = g .pace;
+    races = g .races;
+    watch = g .watch;
+  }
 
   pub sound-queue : (q : Queue) → SoundQueue c q → NoLower (w .high) q → Sound c (with-queue q w)
-  sound-queue q k b = record { clock = g .clock; settings = g .settings; keys = g .keys; mean-least = g .mean-least; mean-most = g .mean-most; frontier = g .frontier; high = b; queue = k; cooling = g .cooling; pace = g .pace; races = g .races; watch = g .watch }
+  sound-queue q k b = sound-filled q (w .high) k b
 
   pub sound-cooling : (l : List ℕ) → Bounded (suc c) l → Sound c (with-cooling l w)
   sound-cooling l k = record { clock = g .clock; settings = g .settings; keys = g .keys; mean-least = g .mean-least; mean-most = g .mean-most; frontier = g .frontier; high = g .high; queue = g .queue; cooling = k; pace = g .pace; races = g .races; watch = g .watch }
@@ -198,20 +210,3 @@ module _ {c : ℕ} {w : Window} (g : Sound c w) where
 
   pub sound-observation : (x : Observation) → SoundObservation x → Sound c (with-observation x w)
   sound-observation x k = let r = g .watch in sound-watch _ (record { stall = r .stall; stuck = r .stuck; observation = k })
-
-  -- both together, as a request raises the high waters with the queue
-  pub sound-filled : (q : Queue) (h : HighWater) → SoundQueue c q → NoLower h q → Sound c (with-high h (with-queue q w))
-  sound-filled q h k b = record {
-    clock = g .clock;
-    settings = g .settings;
-    keys = g .keys;
-    mean-least = g .mean-least;
-    mean-most = g .mean-most;
-    frontier = g .frontier;
-    high = b;
-    queue = k;
-    cooling = g .cooling;
-    pace = g .pace;
-    races = g .races;
-    watch = g .watch;
-  }

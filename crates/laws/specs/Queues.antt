@@ -1,25 +1,24 @@
 -- The queue stays sound: entries go with their owners' starts reset, seats go whole, a request's entries come in. Assumes nothing.
 use mathlib.Core.Path.{_≡_, refl, sym, ap, _∙_}
-use mathlib.Core.Logic.{_⊎_, inl, inr}
-use mathlib.Core.Bool.{Bool, true, false, cond, not, _&&_}
+use mathlib.Core.Logic.{inl, inr}
+use mathlib.Core.Bool.{Bool, true, false, cond}
 use mathlib.Core.List.{List, [], _∷_}
 use Prim.Native.Nat.{ℕ, zero, suc, _+_, _-_, _≤_, _<_}
 use native.Mathlib.Nat.{zero-add}
 use native.Mathlib.Omega.{arith}
-use lib.ListN.{length, getD, set, length-set}
+use lib.ListN.{length, getD, length-set}
 use lib.Seq.{getD-set-same, getD-set-other}
-use lib.Dec.{eqb, ltb, leb}
-use borrow.Author.Tests.{eqb-true, eqb-false, ltb-true, ltb-false, lt-ltb, le-ltb, eq-eqb, ne-eqb}
-use Rattle.model.specs.Numbers.{greater, max-pending}
-use Rattle.model.specs.Records.{sum, insert}
-use Rattle.model.specs.Seats.{sooner, oldest, start-reset, body-reset, reset-owner-queue-start, keep-seats}
-use Rattle.model.specs.Window.{Window, Queue, HighWater, queue}
-use Rattle.model.specs.LettingGo.{without, total-after, resets, gone, kept, if-kept, lost-reason}
+use lib.Dec.{eqb, ltb}
+use borrow.Author.Tests.{eqb-true, eqb-false, ltb-false, le-ltb}
+use Rattle.model.specs.Records.{sum}
+use Rattle.model.specs.Seats.{oldest, start-reset, body-reset, reset-owner-queue-start, keep-seats}
+use Rattle.model.specs.Window.{Queue, HighWater, queue}
+use Rattle.model.specs.LettingGo.{total-after, resets, gone, kept, lost-reason}
 use Rattle.model.specs.declared.Entry.{Entry}
 use Rattle.model.specs.declared.Release.{Release}
-use Rattle.laws.specs.Numbers.{both, first-le-greater, second-le-greater, greater-le}
-use Rattle.laws.specs.Bag.{weigh, one, weigh-one, Pick, here, there, pick-weigh}
-use Rattle.laws.specs.Entries.{with-hash, estimate-of, sum-weigh, by-entry, Picks, done, more, picks-weigh, picks-rising, sift, Each, each-picks, owned, early, oldest-none, oldest-first, first-oldest, sooner-le, sooner-ge, with-time}
+use Rattle.laws.specs.Numbers.{both, second-le-greater, greater-le}
+use Rattle.laws.specs.Bag.{weigh, one, weigh-one}
+use Rattle.laws.specs.Entries.{estimate-of, sum-weigh, by-entry, Picks, picks-weigh, picks-rising, sift, Each, each-picks, owned, early, oldest-none, oldest-first, first-oldest, sooner-le, with-time}
 use Rattle.laws.specs.Sound.{Bounded, InRange, Seat, SoundQueue, NoLower}
 use Rattle.laws.specs.Parts.{bounded-set, bounded-keep, getD-keep, length-keep}
 
@@ -123,40 +122,49 @@ after-le (g ∷ gs) n = omega (arith, after-le gs (n - g .entry .estimate))
 
 -- ---- entries go, and each resets its owner's start
 
-pub queue-outs : {c : ℕ} {q : Queue} {gs : List Release} {m : List Entry} → Picks gs (q .pending) m → SoundQueue c q
-    → SoundQueue c (resets c gs (queue (total-after gs (q .total)) m (q .starts) (q .bodies)))
-queue-outs {c} {q} {gs} {m} p h =
-    let l = q .pending in
-    let q₁ : Queue = queue (total-after gs (q .total)) m (q .starts) (q .bodies) in
-    let is = resets-pending c gs q₁ in
-    let each = each-picks (InRange c) p (h .each) in
-    record {
-      rising = rw is (picks-rising 0 p (h .rising));
-      few = rw is (omega (arith, picks-weigh one p, weigh-one l, weigh-one m, h .few));
-      each = rw is each;
-      total = rw (is, resets-total c gs q₁) (total-is gs (q .total) (sum m) (omega (arith, h .total, sum-weigh l, sum-weigh m, picks-weigh estimate-of p)));
-      seats = resets-seats c gs q₁ ∙ h .seats;
-      starts = λ s k.
-          let u = h .starts s k in
-          let o = oldest s m in
-          rw is (resets-seat c s gs q₁ (omega (arith, h .seats)) (oldest-top s c m each) (u .below)
-          (λ z y. u .none (oldest-none s l .1 (omega (arith, picks-weigh (owned s) p, oldest-none s m .0 y))))
-          (λ z. elim (both (eqb o 0)) [
-            | inl y ↦ omega (arith, eqb-true o 0 y)
-            | inr y ↦
-                let none : weigh (early s o) l ≡ 0 = omega (arith, picks-weigh (early s o) p, oldest-first s o m (λ g. omega arith)) in
-                let some : 0 < oldest s l = elim (both (eqb (oldest s l) 0)) [
-                  | inl x ↦ absurd (eqb-false o 0 y (oldest-none s m .1 (omega (arith, picks-weigh (owned s) p, oldest-none s l .0 (eqb-true (oldest s l) 0 x)))))
-                  | inr x ↦ omega (arith, eqb-false (oldest s l) 0 x)
-                ] in
-                omega (arith, first-oldest s o l none some, u .above)
-          ]));
-      bodies = resets-bodies c (suc c) gs q₁ (h .bodies);
-    }
+-- the queue after gs went and m is left
+abbrev pub after-outs : ℕ → List Release → List Entry → Queue → Queue
+after-outs c gs m q = resets c gs (queue (total-after gs (q .total)) m (q .starts) (q .bodies))
+
+module _ {c : ℕ} {q : Queue} {gs : List Release} {m : List Entry} (p : Picks gs (q .pending) m) (h : SoundQueue c q) where
+  -- a start is no earlier than the oldest that is left, and gone where none is left
+  outs-seat : (s : ℕ) → s < 256 → Seat (oldest s m) (getD (after-outs c gs m q .starts) s 0) (suc c)
+  outs-seat s k =
+      let l = q .pending in
+      let u = h .starts s k in
+      let o = oldest s m in
+      resets-seat c s gs _ (omega (arith, h .seats)) (oldest-top s c m (each-picks (InRange c) p (h .each))) (u .below)
+      (λ z y. u .none (oldest-none s l .1 (omega (arith, picks-weigh (owned s) p, oldest-none s m .0 y))))
+      (λ z. elim (both (eqb o 0)) [
+        | inl y ↦ omega (arith, eqb-true o 0 y)
+        | inr y ↦
+            let none : weigh (early s o) l ≡ 0 = omega (arith, picks-weigh (early s o) p, oldest-first s o m (λ g. omega arith)) in
+            let some : 0 < oldest s l = elim (both (eqb (oldest s l) 0)) [
+              | inl x ↦ absurd (eqb-false o 0 y (oldest-none s m .1 (omega (arith, picks-weigh (owned s) p, oldest-none s l .0 (eqb-true (oldest s l) 0 x)))))
+              | inr x ↦ omega (arith, eqb-false (oldest s l) 0 x)
+            ] in
+            omega (arith, first-oldest s o l none some, u .above)
+      ])
+
+  -- the total is the sum of what is left
+  outs-total : after-outs c gs m q .total ≡ sum m
+  outs-total = resets-total c gs _ ∙ total-is gs (q .total) (sum m) (omega (arith, h .total, sum-weigh (q .pending), sum-weigh m, picks-weigh estimate-of p))
+
+  pub queue-outs : SoundQueue c (after-outs c gs m q)
+  queue-outs =
+      let is = resets-pending c gs (queue (total-after gs (q .total)) m (q .starts) (q .bodies)) in
+      record {
+        rising = rw is (picks-rising 0 p (h .rising));
+        few = rw is (omega (arith, picks-weigh one p, weigh-one (q .pending), weigh-one m, h .few));
+        each = rw is (each-picks (InRange c) p (h .each));
+        total = rw is outs-total;
+        seats = resets-seats c gs _ ∙ h .seats;
+        starts = λ s k. rw is (outs-seat s k);
+        bodies = resets-bodies c (suc c) gs _ (h .bodies);
+      }
 
 -- and the high waters are no lower
-pub outs-lower : {h : HighWater} {q : Queue} {gs : List Release} {m : List Entry} (c : ℕ) → Picks gs (q .pending) m → NoLower h q
-    → NoLower h (resets c gs (queue (total-after gs (q .total)) m (q .starts) (q .bodies)))
+pub outs-lower : {h : HighWater} {q : Queue} {gs : List Release} {m : List Entry} (c : ℕ) → Picks gs (q .pending) m → NoLower h q → NoLower h (after-outs c gs m q)
 outs-lower {q = q} {gs = gs} {m = m} c p h =
     let q₁ : Queue = queue (total-after gs (q .total)) m (q .starts) (q .bodies) in
     record {
@@ -193,8 +201,19 @@ module _ (keep : ℕ → Bool) (r : ℕ) where
     | inr q ↦ rw q (oldest-kept s l ∙ leaving-time s e (oldest s l) q)
   ]
 
-  pub queue-keeps : {c : ℕ} {q : Queue} → SoundQueue c q
-      → SoundQueue c (queue (total-after (gone goes (q .pending)) (q .total)) (kept goes (q .pending)) (keep-seats keep 0 (q .starts)) (keep-seats keep 0 (q .bodies)))
+  -- the queue without the seats that are not kept
+  abbrev pub after-keeps : Queue → Queue
+  after-keeps q =
+      queue (total-after (gone goes (q .pending)) (q .total)) (kept goes (q .pending)) (keep-seats keep 0 (q .starts)) (keep-seats keep 0 (q .bodies))
+
+  -- a seat that is not kept has no entry and no start
+  keeps-seat : {c : ℕ} {q : Queue} → SoundQueue c q → (s : ℕ) → s < 256 → Seat (oldest s (kept goes (q .pending))) (getD (after-keeps q .starts) s 0) (suc c)
+  keeps-seat {c} {q} h s k = rw (oldest-kept s (q .pending), getD-keep keep 0 (q .starts) s, zero-add s) (elim (both (keep s)) [
+    | inl y ↦ rw y (h .starts s k)
+    | inr y ↦ rw y (record { none = λ z. refl; above = omega arith; below = omega arith })
+  ])
+
+  pub queue-keeps : {c : ℕ} {q : Queue} → SoundQueue c q → SoundQueue c (after-keeps q)
   queue-keeps {c} {q} h =
       let l = q .pending in
       let m = kept goes l in
@@ -205,15 +224,11 @@ module _ (keep : ℕ → Bool) (r : ℕ) where
         each = each-picks (InRange c) p (h .each);
         total = total-is (gone goes l) (q .total) (sum m) (omega (arith, h .total, sum-weigh l, sum-weigh m, picks-weigh estimate-of p));
         seats = length-keep keep 0 (q .starts) ∙ h .seats;
-        starts = λ s k. rw (oldest-kept s l, getD-keep keep 0 (q .starts) s, zero-add s) (elim (both (keep s)) [
-          | inl y ↦ rw y (h .starts s k)
-          | inr y ↦ rw y (record { none = λ z. refl; above = omega arith; below = omega arith })
-        ]);
+        starts = keeps-seat h;
         bodies = bounded-keep keep (h .bodies);
       }
 
-  pub keeps-lower : {h : HighWater} {q : Queue} → NoLower h q
-      → NoLower h (queue (total-after (gone goes (q .pending)) (q .total)) (kept goes (q .pending)) (keep-seats keep 0 (q .starts)) (keep-seats keep 0 (q .bodies)))
+  pub keeps-lower : {h : HighWater} {q : Queue} → NoLower h q → NoLower h (after-keeps q)
   keeps-lower {q = q} h =
       let p = sift goes (q .pending) in
       record {

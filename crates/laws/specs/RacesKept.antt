@@ -1,23 +1,22 @@
 -- 01's modules 5 and 8 keep a window sound: cooling, the prefix probe and the cold front. Assumes nothing.
-use mathlib.Core.Path.{_≡_, refl, sym, ap, _∙_}
-use mathlib.Core.Logic.{_⊎_, inl, inr}
-use mathlib.Core.Bool.{Bool, true, false, cond, not, _&&_, _||_}
-use mathlib.Core.List.{List, [], _∷_, _++_, map}
+use mathlib.Core.Path.{refl}
+use mathlib.Core.Logic.{inl, inr}
+use mathlib.Core.Bool.{cond, not, _&&_, _||_}
+use mathlib.Core.List.{List, [], _∷_, _++_}
 use Prim.Native.Nat.{ℕ, zero, suc, _+_, _-_, _*_, _/_, _^_, _≤_, _<_}
 use native.Mathlib.Nat.{pow-le-pow-right}
 use native.Mathlib.Omega.{arith}
 use lib.ListN.{length, getD, set, length-append}
 use lib.Dec.{eqb, ltb, leb}
 use lib.Bits.{bitOr, or-lt}
-use borrow.Author.Tests.{ltb-true, leb-true, leb-false}
+use borrow.Author.Tests.{ltb-true, leb-false}
 use Rattle.model.specs.Numbers.{max-seat, present, next-height}
 use Rattle.model.specs.Lists.{any}
 use Rattle.model.specs.Hash.{same, same-hashes, hashes-in}
 use Rattle.model.specs.Records.{lowest}
 use Rattle.model.specs.Cooling.{cools, cooling-noted, key-of, mark-peer-unresponsive}
-use Rattle.model.specs.Window.{Window, Step, stay, and-then, after, with-cold, with-observation, with-preferred, without-probe, no-seats}
-use Rattle.model.specs.LettingGo.{retain-peer-assignments}
-use Rattle.model.specs.Races.{Planned, no-plan, planned, plan-limit, win-blocks, walk, expected-after, plan-from, is-missing, is-seat, is-probing, plan-by, prefix-probe-plan, by-height, entered, probe-started, confirm-by, is-empty, confirm-prefix-probe, place-of, all-four, progressed, has-won, winner, race-won, race-by, race-progress, probe-delivery, record-prefix-probe-delivery, max-hedges, waits-for, hedge-begun, confirm-cold-front-hedge, hedge-lost, resolve-by, resolve-cold-front-delivery}
+use Rattle.model.specs.Window.{Window, with-preferred}
+use Rattle.model.specs.Races.{Planned, no-plan, planned, plan-limit, win-blocks, walk, plan-from, is-missing, is-seat, is-probing, plan-by, prefix-probe-plan, by-height, entered, probe-started, confirm-by, is-empty, confirm-prefix-probe, place-of, all-four, progressed, has-won, winner, race-won, race-by, race-progress, probe-delivery, record-prefix-probe-delivery, max-hedges, waits-for, hedge-begun, confirm-cold-front-hedge, hedge-lost, resolve-by, resolve-cold-front-delivery}
 use Rattle.model.specs.declared.Hash.{Hash}
 use Rattle.model.specs.declared.Entry.{Entry}
 use Rattle.model.specs.declared.Front.{Front}
@@ -32,7 +31,7 @@ use Rattle.model.specs.declared.Observation.the-variants.{Unarmed}
 use Rattle.laws.specs.Numbers.{both, lesser-le-second}
 use Rattle.laws.specs.Sound.{Bounded, SoundSource, SoundCold, SoundProbe, Sound}
 use Rattle.laws.specs.Parts.{bounded-set, bounded-map, bounded-none, sound-cooling, sound-cold, sound-hedged, sound-preferred, sound-attempted, sound-probe, sound-no-probe, sound-observation}
-use Rattle.laws.specs.Lets.{Lets, Steady, lets-stay, lets-then, lets-after, steady-lets, steady-then, retain-lets}
+use Rattle.laws.specs.Lets.{Lets, Steady, lets-stay, lets-after, steady-lets, retain-lets}
 
 -- ---- cooling
 

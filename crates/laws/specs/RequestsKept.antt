@@ -1,34 +1,33 @@
 -- A request and an owned fetch keep a window sound. Assumes nothing.
 use mathlib.Core.Path.{_≡_, refl, sym, ap, _∙_}
-use mathlib.Core.Logic.{_⊎_, inl, inr}
+use mathlib.Core.Logic.{inl, inr}
 use mathlib.Core.Bool.{Bool, true, false, cond, not, _&&_, _||_, true≢false, false≢true}
 use mathlib.Core.List.{List, [], _∷_}
 use Prim.Native.Nat.{ℕ, zero, suc, _+_, _-_, _≤_, _<_}
 use native.Mathlib.Omega.{arith}
-use lib.ListN.{length, getD, set, length-set}
+use lib.ListN.{length, getD, length-set}
 use lib.Seq.{getD-set-same, getD-set-other}
-use lib.Dec.{eqb, ltb, leb}
-use borrow.Author.Tests.{eqb-true, eqb-false, ltb-true, leb-true, not-true, eq-eqb, ne-eqb}
+use lib.Dec.{eqb, leb}
+use borrow.Author.Tests.{eqb-true, eqb-false, ltb-true, not-true, eq-eqb, ne-eqb}
 use Rattle.model.specs.Numbers.{greater, max-height, min-estimate, max-estimate, max-seat, max-pending}
-use Rattle.model.specs.Lists.{all, any, every}
+use Rattle.model.specs.Lists.{all, any}
 use Rattle.model.specs.Hash.{key, same}
 use Rattle.model.specs.Records.{new-entry, insert, found, is-there, sum, pending-count-for}
 use Rattle.model.specs.Seats.{oldest, start-noted}
-use Rattle.model.specs.Window.{Window, Queue, HighWater, queue, with-attempted, with-frontier, with-queue, with-high}
+use Rattle.model.specs.Window.{Window, Queue, HighWater, queue, with-attempted, with-frontier}
 use Rattle.model.specs.Capacity.{capacity-left, has-request-capacity, effective-peer-inflight}
 use Rattle.model.specs.Races.{is-empty}
-use Rattle.model.specs.Calls.{Ask, asks-in, put, puts, raised, started, noted, mark-requested, Fetching, held, staged, asked, no-capacity, owned-fetch, fetched, mark-owned-fetch}
-use Rattle.model.specs.Refusals.{listed-once, list-ok, request-refusal, test}
+use Rattle.model.specs.Calls.{Ask, put, puts, raised, started, noted, mark-requested, Fetching, held, staged, asked, no-capacity, owned-fetch, fetched, mark-owned-fetch}
+use Rattle.model.specs.Refusals.{listed-once}
 use Rattle.model.specs.declared.Hash.{Hash}
 use Rattle.model.specs.declared.Entry.{Entry}
 use Rattle.model.specs.declared.Front.{Front}
-use Rattle.model.specs.declared.Front.the-variants.{Nothing, At}
-use Rattle.model.specs.declared.Source.the-variants.{Missing, From}
-use Rattle.laws.specs.Numbers.{both, and-left, and-right, first-le-greater, second-le-greater, greater-le}
+use Rattle.model.specs.declared.Source.the-variants.{Missing}
+use Rattle.laws.specs.Numbers.{both, and-left, and-right, second-le-greater, greater-le}
 use Rattle.laws.specs.Every.{hold, all-first, all-rest, blocks-le}
-use Rattle.laws.specs.Bag.{weigh, one, weigh-one, Pick, pick-weigh}
+use Rattle.laws.specs.Bag.{weigh, one, weigh-one, pick-weigh}
 use Rattle.laws.specs.Entries.{on, on-other, with-hash, estimate-of, sum-weigh, Rising, insert-pick, insert-rising, Finding, missing, at, found-is, Each, each-unpick, owned, early, oldest-none, oldest-first, first-oldest, with-time, oldest-pick}
-use Rattle.laws.specs.Sound.{Bounded, InRange, Seat, SoundQueue, NoLower, Sound}
+use Rattle.laws.specs.Sound.{InRange, Seat, SoundQueue, NoLower, Sound}
 use Rattle.laws.specs.Parts.{sound-frontier, sound-attempted, sound-filled}
 use Rattle.laws.specs.Queues.{oldest-top}
 

@@ -8,8 +8,8 @@ use native.Mathlib.Omega.{arith}
 use lib.ListN.{length, take, drop, getD, replicate, length-drop, length-map, drop-of-length-le}
 use lib.Seq.{drop-cons, drop-drop, take-take, length-take-le, getD-take, getD-drop}
 use borrow.Author.Count.{below-more}
-use Rattle.column.proofs.Parts.{put, put-long, put-part, put-before, put-after, put-lower, put-higher, take-drop}
-use Rattle.model.specs.Lists.{removeAt, insertAt, inserted, keptIf, keepBy, keptBy}
+use Rattle.column.proofs.Parts.{put, put-long, put-part, put-after, put-lower, put-higher, take-drop}
+use Rattle.model.specs.Lists.{removeAt, insertAt, inserted, keepBy, keptBy}
 use Rattle.model.specs.Layout.{blank, entry-at, rows, field}
 use Rattle.model.specs.declared.Entry.{Entry}
 

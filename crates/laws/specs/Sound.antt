@@ -1,10 +1,9 @@
 -- Soundness of a window at the clock c, as facts on the window itself: what every step is to keep, and exactly what makes its words a window
 -- (`sound-words`, Words.antt). Each range stands for one test of the model's `valid`. Assumes nothing.
-use mathlib.Core.Path.{_≡_, refl, sym, ap, _∙_}
-use mathlib.Core.Bool.{Bool, true, false}
-use mathlib.Core.List.{List, [], _∷_}
-use Prim.Native.Nat.{ℕ, zero, suc, _+_, _≤_, _<_}
-use native.Mathlib.Omega.{arith}
+use mathlib.Core.Path.{_≡_}
+use mathlib.Core.Bool.{true}
+use mathlib.Core.List.{List, []}
+use Prim.Native.Nat.{ℕ, suc, _≤_, _<_}
 use lib.ListN.{length, getD}
 use Rattle.model.specs.Numbers.{max-clock, max-height, min-estimate, max-estimate, max-duration, max-pending, max-seat, max-front-mean}
 use Rattle.model.specs.Records.{sum}
@@ -13,7 +12,6 @@ use Rattle.model.specs.Layout.{settings-ok}
 use Rattle.model.specs.Window.{Window, Queue, HighWater, Races, Watch}
 use Rattle.model.specs.declared.Hash.{Hash}
 use Rattle.model.specs.declared.Entry.{Entry}
-use Rattle.model.specs.declared.Settings.{Settings}
 use Rattle.model.specs.declared.Pace.{Pace}
 use Rattle.model.specs.declared.Source.{Source}
 use Rattle.model.specs.declared.Source.the-variants.{Missing, From}

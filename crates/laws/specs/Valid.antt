@@ -1,7 +1,7 @@
 -- The tests on a table, part by part, as facts on numbers and the other way round. Assumes nothing.
-use mathlib.Core.Path.{_≡_, refl, sym, ap, _∙_}
-use mathlib.Core.Logic.{_⊎_, inl, inr}
-use mathlib.Core.Bool.{Bool, true, false, cond, _&&_, false≢true}
+use mathlib.Core.Path.{_≡_, refl}
+use mathlib.Core.Logic.{inl, inr}
+use mathlib.Core.Bool.{Bool, true, cond, false≢true}
 use mathlib.Core.List.{List, [], _∷_, _++_}
 use Prim.Native.Nat.{ℕ, zero, suc, _+_, _-_, _*_, _≤_, _<_}
 use native.Mathlib.Omega.{arith}
@@ -16,8 +16,6 @@ use Rattle.model.specs.Seats.{oldest}
 use Rattle.model.specs.Layout.{Table, blank, word, words-at, hash-at, is-0, zeros, time-ok, is-blank, entry-ok, less-first, rising, start-ok, starts-ok, stall-words, stall-of, stuck-words, stuck-of, cold-words, cold-of, observation-words, observation-of, probe-words, planned-words, probe-of, stall-ok, stuck-ok, cold-by, cold-ok, observation-by, observation-ok, probe-ok}
 use Rattle.model.specs.declared.Hash.{Hash}
 use Rattle.model.specs.declared.Entry.{Entry}
-use Rattle.model.specs.declared.Source.{Source}
-use Rattle.model.specs.declared.Source.the-variants.{Missing, From}
 use Rattle.model.specs.declared.Stall.{Stall}
 use Rattle.model.specs.declared.Stall.the-variants.{Calm, Episode}
 use Rattle.model.specs.declared.Stuck.{Stuck}
@@ -31,7 +29,7 @@ use Rattle.model.specs.declared.Observation.the-variants.{Unarmed, Armed, Swept
 use Rattle.laws.specs.Numbers.{both, and-left, and-right}
 use Rattle.laws.specs.Every.{hold, and-so, all-first, all-rest}
 use Rattle.laws.specs.Entries.{Rising, Each}
-use Rattle.laws.specs.Sound.{Bounded, InRange, Seat, SoundStall, SoundStuck, SoundCold, SoundObservation, SoundProbe}
+use Rattle.laws.specs.Sound.{InRange, Seat, SoundStall, SoundStuck, SoundCold, SoundObservation, SoundProbe}
 use Rattle.laws.specs.Heads.{word-is, words-join, all-zeros, padded-zero, count-said}
 
 -- ---- 256 numbers

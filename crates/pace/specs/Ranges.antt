@@ -1,14 +1,13 @@
 -- The ranges of a window's pace, and that every rule keeps them. Assumes nothing.
-use mathlib.Core.Path.{_≡_, refl, ap}
-use mathlib.Core.Logic.{_⊎_, inl, inr}
-use mathlib.Core.Bool.{Bool, true, false, cond}
-use Prim.Native.Nat.{ℕ, zero, suc, _+_, _-_, _*_, _/_, _≤_, _<_, zero-le}
+use mathlib.Core.Path.{_≡_}
+use mathlib.Core.Logic.{inl, inr}
+use Prim.Native.Nat.{ℕ, zero, suc, _*_, _/_, _≤_, zero-le}
 use native.Mathlib.Omega.{arith}
 use lib.Dec.{leb, ltb}
-use borrow.Author.Tests.{leb-true, leb-false}
+use borrow.Author.Tests.{leb-true}
 use Rattle.model.specs.declared.Pace.{Pace}
 use Rattle.model.specs.declared.Settings.{Settings}
-use Rattle.model.specs.Numbers.{max-clock, max-duration, max-front-mean, age}
+use Rattle.model.specs.Numbers.{max-clock, max-duration, max-front-mean}
 use Rattle.model.specs.Pace.{min-sample, sample-ms, nearer, mean-by, front-mean-by, front-mean, decay-floor, stall-decay-floor, decayed, front-recorded, effective-stall-timeout, wait-widened, pace-opened}
 use Rattle.laws.specs.Numbers.{both, lesser-le-second, greater-le, age-le}
 

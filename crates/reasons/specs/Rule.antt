@@ -1,6 +1,6 @@
 -- The table's rule, "all but 1, 4 and 5", proved once: a test that antt computes over the whole table, and the rule at each entry. Assumes nothing.
 use mathlib.Core.Path.{_≡_, refl, ap, _∙_}
-use mathlib.Core.Logic.{_⊎_, inl, inr}
+use mathlib.Core.Logic.{inl, inr}
 use mathlib.Core.Bool.{Bool, true, false, _&&_, Bool·beq}
 use mathlib.Core.List.{List, [], _∷_}
 use Prim.Native.Nat.{ℕ, zero, suc, _+_, _≤_, _<_}
@@ -8,7 +8,6 @@ use native.Mathlib.Nat.{le-of-suc-le-suc, not-suc-le-zero, add-zero}
 use native.Mathlib.Omega.{arith}
 use lib.Dec.{eqb}
 use lib.ListN.{length, getD, drop}
-use Rattle.model.specs.Numbers.{lesser}
 use Rattle.model.specs.Reasons.{lowering, lowers, lowering-rule, lowered}
 use Rattle.laws.specs.Numbers.{both, and-left, and-right, lesser-le-first}
 

@@ -28,6 +28,9 @@ pub enum Oldest {
     Since(u64),
 }
 
+// The columns; a ninth would take the words from 2048 on.
+const COLUMNS: usize = 8;
+
 // ---- one record
 
 fn hash_of(words: &[u64], i: usize) -> Hash
@@ -65,7 +68,7 @@ pub fn remove(words: &mut [u64], at: usize)
     ensures { λ _. ⌜ decode (now (words .exit)) ≡ removed at (decode (now (words .entry))) ⌝ }
 {
     let mut k = 0;
-    while k < 8 {
+    while k < COLUMNS {
         let a = 256 * k;
         let e = a + 256;
         column::remove_at(&mut words[a..e], at);
@@ -89,7 +92,7 @@ pub fn insert(words: &mut [u64], at: usize, e: Entry)
     ensures { λ _. ⌜ decode (now (words .exit)) ≡ put-in at e (decode (now (words .entry))) ⌝ }
 {
     let mut k = 0;
-    while k < 8 {
+    while k < COLUMNS {
         let a = 256 * k;
         let z = a + 256;
         let v = field_of(e, k);
@@ -104,7 +107,7 @@ pub fn keep(words: &mut [u64], marks: &[u64])
     ensures { λ _. ⌜ decode (now (words .exit)) ≡ kept-rows (now (marks .entry)) (decode (now (words .entry))) ⌝ }
 {
     let mut k = 0;
-    while k < 8 {
+    while k < COLUMNS {
         let a = 256 * k;
         let e = a + 256;
         column::keep_unmarked(&mut words[a..e], marks);

@@ -1,12 +1,11 @@
 -- What the resets and drops of seats are to a table, and that they are the model's. Assumes nothing.
-use mathlib.Core.Path.{_≡_, refl, sym, ap, _∙_}
-use mathlib.Core.Bool.{Bool}
+use mathlib.Core.Path.{_≡_, ap}
 use mathlib.Core.List.{List}
 use Prim.Native.Nat.{ℕ, suc}
 use lib.ListN.{getD, set}
 use Rattle.model.specs.Seats.{oldest, start-reset, body-reset, reset-owner-queue-start, keep-seats}
 use Rattle.model.specs.LettingGo.{flagged}
-use Rattle.model.specs.Window.{Window, queue, with-queue}
+use Rattle.model.specs.Window.{queue, with-queue}
 use Rattle.model.specs.Layout.{Table, word, live, words-at, hash-at, settings-of, read}
 use Rattle.laws.specs.Tables.{with-starts, with-bodies}
 

@@ -1,7 +1,7 @@
 -- `column::clear_from` meets its contract: at the loop's head the column has the result's first i words, and then its own. Assumes nothing.
 use mathlib.Core.Path.{_≡_, refl, sym, ap, _∙_}
 use mathlib.Core.List.{List, _++_}
-use Prim.Native.Nat.{ℕ, _+_, _-_, _≤_, _<_}
+use Prim.Native.Nat.{ℕ, _-_, _≤_}
 use native.Mathlib.Omega.{arith}
 use native.Mathlib.Numerals.{add-one}
 use lib.ListN.{length, getD, set, take, replicate, length-set, length-append, length-replicate, List·getD-eq-default}
@@ -9,8 +9,6 @@ use lib.Seq.{length-take-le, take-at}
 use Rattle.column.proofs.Laws.{over, over-start, over-step, over-done, getD-pad}
 use Rattle.column.proofs.clear_from.Statement.{statement}
 use Rattle.column.proofs.clear_from.Tie as tie
-use Rattle.column.proofs.clear_from.Reads as reads
-use Rattle.column.proofs.clear_from.Lts as lts
 
 abbrev T : ℕ → List ℕ → List ℕ
 T from l = take from l ++ replicate (length l - from) 0

@@ -2,19 +2,16 @@
 -- and those still to be kept are what is unmarked from i on. Assumes nothing.
 use mathlib.Core.Path.{_≡_, refl, sym, ap, _∙_}
 use mathlib.Core.List.{List, [], _∷_, _++_}
-use Prim.Native.Nat.{ℕ, suc, _+_, _-_, _≤_, _<_}
+use Prim.Native.Nat.{ℕ, suc, _-_, _≤_, _<_}
 use native.Mathlib.Nat.{add-zero}
 use native.Mathlib.Omega.{arith}
 use native.Mathlib.Numerals.{add-one}
 use lib.ListN.{length, getD, set, take, drop, replicate, length-set, length-drop, drop-of-length-le}
 use lib.Seq.{getD-drop, drop-drop, take-at, take-length}
 use Rattle.model.specs.Lists.{keepBy, keptBy}
-use Rattle.column.proofs.Laws.{over, over-step, over-read, length-kept, keep-one, keep-none}
+use Rattle.column.proofs.Laws.{over, over-step, over-read, keep-one, keep-none}
 use Rattle.column.proofs.keep_unmarked.Statement.{statement}
 use Rattle.column.proofs.keep_unmarked.Tie as tie
-use Rattle.column.proofs.keep_unmarked.Reads as reads
-use Rattle.column.proofs.keep_unmarked.Lts as lts
-use Rattle.column.proofs.clear_from.Reads as clear-from-reads
 
 record Inv (l ms col : List ℕ) (i j : ℕ) : Type 0 where
   ahead : j ≤ i

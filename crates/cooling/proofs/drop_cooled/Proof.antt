@@ -1,5 +1,5 @@
 -- `cooling::drop_cooled` meets its contract. At the loop's head the first i stored times are mapped. Assumes nothing.
-use mathlib.Core.Path.{_≡_, refl, sym, ap, _∙_}
+use mathlib.Core.Path.{_≡_, refl, ap, _∙_}
 use Prim.Native.Nat.{ℕ, _-_}
 use native.Mathlib.Omega.{arith}
 use native.Mathlib.Numerals.{add-one}

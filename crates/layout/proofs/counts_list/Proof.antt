@@ -3,8 +3,6 @@ use mathlib.Core.Path.{refl}
 use Rattle.layout.specs.Head.{counts-list}
 use Rattle.layout.proofs.counts_list.Statement.{statement}
 use Rattle.layout.proofs.counts_list.Tie as tie
-use Rattle.layout.proofs.counts_list.Reads as reads
-use Rattle.layout.proofs.counts_list.Lts as lts
 
 returns : tie.Need-returns
 unfolding counts-list

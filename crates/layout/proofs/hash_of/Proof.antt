@@ -7,11 +7,8 @@ use lib.ListN.{getD}
 use Rattle.model.specs.Hash.{hash}
 use Rattle.model.specs.Layout.{decode, word, hash-at}
 use Rattle.laws.specs.Tables.{word-decode}
-use borrow.Author.Needs.{needs}
 use Rattle.layout.proofs.hash_of.Statement.{statement}
 use Rattle.layout.proofs.hash_of.Tie as tie
-use Rattle.layout.proofs.hash_of.Reads as reads
-use Rattle.layout.proofs.hash_of.Lts as lts
 
 at : (k j : ℕ) (ws : List ℕ) → getD ws (3584 + k + j) 0 ≡ word (k + j) (decode ws)
 at k j ws = let e : 3584 + k + j ≡ 3584 + (k + j) = omega arith in ap (λ (n : ℕ). getD ws n 0) e ∙ sym (word-decode (k + j) ws)

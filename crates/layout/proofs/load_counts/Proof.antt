@@ -4,11 +4,8 @@ use mathlib.Core.Path.{sym}
 use Rattle.model.specs.Lists.{count}
 use Rattle.laws.specs.Tables.{word-decode}
 use Rattle.layout.specs.Head.{counts-of}
-use borrow.Author.Needs.{needs}
 use Rattle.layout.proofs.load_counts.Statement.{statement}
 use Rattle.layout.proofs.load_counts.Tie as tie
-use Rattle.layout.proofs.load_counts.Reads as reads
-use Rattle.layout.proofs.load_counts.Lts as lts
 
 shared-slice-read-t3 : tie.Need-shared-slice-read-t3
 shared-slice-read-t3 c = omega arith

@@ -4,11 +4,8 @@ use mathlib.Core.Path.{sym}
 use lib.Dec.{eqb}
 use Rattle.laws.specs.Tables.{word-decode}
 use Rattle.layout.specs.Head.{fanout-of}
-use borrow.Author.Needs.{needs}
 use Rattle.layout.proofs.load_fanout.Statement.{statement}
 use Rattle.layout.proofs.load_fanout.Tie as tie
-use Rattle.layout.proofs.load_fanout.Reads as reads
-use Rattle.layout.proofs.load_fanout.Lts as lts
 
 shared-slice-read-engaged : tie.Need-shared-slice-read-engaged
 shared-slice-read-engaged c = omega arith

@@ -3,11 +3,8 @@ use native.Mathlib.Omega.{arith}
 use mathlib.Core.Path.{sym}
 use Rattle.model.specs.Pace.{pace}
 use Rattle.laws.specs.Tables.{word-decode}
-use borrow.Author.Needs.{needs}
 use Rattle.layout.proofs.load_pace.Statement.{statement}
 use Rattle.layout.proofs.load_pace.Tie as tie
-use Rattle.layout.proofs.load_pace.Reads as reads
-use Rattle.layout.proofs.load_pace.Lts as lts
 
 shared-slice-read-t3 : tie.Need-shared-slice-read-t3
 shared-slice-read-t3 c = omega arith

@@ -4,10 +4,6 @@ use Rattle.model.specs.Layout.{source-of}
 use borrow.Author.Needs.{needs}
 use Rattle.layout.proofs.load_preferred.Statement.{statement}
 use Rattle.layout.proofs.load_preferred.Tie as tie
-use Rattle.layout.proofs.load_preferred.Reads as reads
-use Rattle.layout.proofs.load_preferred.Lts as lts
-use Rattle.layout.proofs.source_of.Reads as source-of-reads
-use Rattle.layout.proofs.word_of.Reads as word-of-reads
 
 word-of-requires : tie.Need-word-of-requires
 word-of-requires c κs = search needs

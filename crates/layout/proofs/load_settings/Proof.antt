@@ -3,11 +3,8 @@ use native.Mathlib.Omega.{arith}
 use mathlib.Core.Path.{sym}
 use Rattle.model.specs.Layout.{settings-of}
 use Rattle.laws.specs.Tables.{word-decode}
-use borrow.Author.Needs.{needs}
 use Rattle.layout.proofs.load_settings.Statement.{statement}
 use Rattle.layout.proofs.load_settings.Tie as tie
-use Rattle.layout.proofs.load_settings.Reads as reads
-use Rattle.layout.proofs.load_settings.Lts as lts
 
 shared-slice-read-t3 : tie.Need-shared-slice-read-t3
 shared-slice-read-t3 c = omega arith

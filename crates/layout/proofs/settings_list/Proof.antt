@@ -3,8 +3,6 @@ use mathlib.Core.Path.{refl}
 use Rattle.model.specs.Layout.{settings-words}
 use Rattle.layout.proofs.settings_list.Statement.{statement}
 use Rattle.layout.proofs.settings_list.Tie as tie
-use Rattle.layout.proofs.settings_list.Reads as reads
-use Rattle.layout.proofs.settings_list.Lts as lts
 
 returns : tie.Need-returns
 unfolding settings-words

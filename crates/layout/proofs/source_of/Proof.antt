@@ -7,8 +7,6 @@ use Rattle.model.specs.declared.Source.the-variants.{From}
 use borrow.Author.Needs.{needs}
 use Rattle.layout.proofs.source_of.Statement.{statement}
 use Rattle.layout.proofs.source_of.Tie as tie
-use Rattle.layout.proofs.source_of.Reads as reads
-use Rattle.layout.proofs.source_of.Lts as lts
 
 source-some : (s : ℕ) → (s ≡ 0 → ⊥) → From (s - 1) ≡ source-of s
 source-some zero n = absurd (n refl)

@@ -8,8 +8,6 @@ use Rattle.model.specs.declared.Source.{Source}
 use borrow.Author.Needs.{needs}
 use Rattle.layout.proofs.source_word.Statement.{statement}
 use Rattle.layout.proofs.source_word.Tie as tie
-use Rattle.layout.proofs.source_word.Reads as reads
-use Rattle.layout.proofs.source_word.Lts as lts
 
 enum-told : tie.Need-enum-told
 enum-told c = search needs

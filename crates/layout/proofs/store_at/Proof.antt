@@ -9,9 +9,6 @@ use Rattle.laws.specs.Tables.{with-words, decode-words}
 use borrow.Author.Needs.{needs}
 use Rattle.layout.proofs.store_at.Statement.{statement}
 use Rattle.layout.proofs.store_at.Tie as tie
-use Rattle.layout.proofs.store_at.Reads as reads
-use Rattle.layout.proofs.store_at.Lts as lts
-use Rattle.column.proofs.copy_over.Reads as copy-over-reads
 
 add-a : tie.Need-add-a
 add-a c = omega arith

@@ -8,10 +8,6 @@ use Rattle.laws.specs.Tables.{with-words}
 use borrow.Author.Needs.{needs}
 use Rattle.layout.proofs.store_counts.Statement.{statement}
 use Rattle.layout.proofs.store_counts.Tie as tie
-use Rattle.layout.proofs.store_counts.Reads as reads
-use Rattle.layout.proofs.store_counts.Lts as lts
-use Rattle.layout.proofs.counts_list.Reads as counts-list-reads
-use Rattle.layout.proofs.store_at.Reads as store-at-reads
 
 counts-list-requires : tie.Need-counts-list-requires
 counts-list-requires c κs = search needs

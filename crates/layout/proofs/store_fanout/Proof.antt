@@ -9,10 +9,6 @@ use Rattle.layout.specs.Head.{fanout-list}
 use borrow.Author.Needs.{needs}
 use Rattle.layout.proofs.store_fanout.Statement.{statement}
 use Rattle.layout.proofs.store_fanout.Tie as tie
-use Rattle.layout.proofs.store_fanout.Reads as reads
-use Rattle.layout.proofs.store_fanout.Lts as lts
-use Rattle.layout.proofs.flag_word.Reads as flag-word-reads
-use Rattle.layout.proofs.store_at.Reads as store-at-reads
 
 flag-word-requires : tie.Need-flag-word-requires
 flag-word-requires c κs = search needs

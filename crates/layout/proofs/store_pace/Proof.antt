@@ -4,9 +4,6 @@ use Rattle.layout.specs.Head.{pace-list}
 use borrow.Author.Needs.{needs}
 use Rattle.layout.proofs.store_pace.Statement.{statement}
 use Rattle.layout.proofs.store_pace.Tie as tie
-use Rattle.layout.proofs.store_pace.Reads as reads
-use Rattle.layout.proofs.store_pace.Lts as lts
-use Rattle.layout.proofs.store_at.Reads as store-at-reads
 
 slice-aggregate-store-at : tie.Need-slice-aggregate-store-at
 slice-aggregate-store-at c = omega arith

@@ -8,10 +8,6 @@ use Rattle.laws.specs.Tables.{with-words}
 use borrow.Author.Needs.{needs}
 use Rattle.layout.proofs.store_settings.Statement.{statement}
 use Rattle.layout.proofs.store_settings.Tie as tie
-use Rattle.layout.proofs.store_settings.Reads as reads
-use Rattle.layout.proofs.store_settings.Lts as lts
-use Rattle.layout.proofs.settings_list.Reads as settings-list-reads
-use Rattle.layout.proofs.store_at.Reads as store-at-reads
 
 settings-list-requires : tie.Need-settings-list-requires
 settings-list-requires c κs = search needs

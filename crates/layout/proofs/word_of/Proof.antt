@@ -2,11 +2,8 @@
 use native.Mathlib.Omega.{arith}
 use mathlib.Core.Path.{sym}
 use Rattle.laws.specs.Tables.{word-decode}
-use borrow.Author.Needs.{needs}
 use Rattle.layout.proofs.word_of.Statement.{statement}
 use Rattle.layout.proofs.word_of.Tie as tie
-use Rattle.layout.proofs.word_of.Reads as reads
-use Rattle.layout.proofs.word_of.Lts as lts
 
 add-result : tie.Need-add-result
 add-result c = omega arith

@@ -1,6 +1,5 @@
 -- `pace::front_mean` meets its contract. Assumes nothing.
 use mathlib.Core.Path.{ap, sym, _∙_}
-use Prim.Native.Nat.{ℕ}
 use native.Mathlib.Omega.{arith}
 use borrow.Author.Needs.{needs}
 use Rattle.model.specs.Pace.{front-mean-by}

@@ -17,9 +17,6 @@ use Rattle.laws.specs.Tables.{entry-decode}
 use Rattle.model.specs.declared.Front.the-variants.{At}
 use Rattle.records.proofs.at_height.Statement.{statement}
 use Rattle.records.proofs.at_height.Tie as tie
-use Rattle.records.proofs.at_height.Reads as reads
-use Rattle.records.proofs.at_height.Lts as lts
-use Rattle.records.proofs.entry_of.Reads as entry-of-reads
 
 -- a turn, by its test
 turn : (n m i : ℕ) (ws : List ℕ) (b : Bool) → i < m → m ≤ 256 → eqb (getD ws (i + 1536) 0) n ≡ b

@@ -5,10 +5,6 @@ use Rattle.model.specs.declared.Hash.{Hash}
 use borrow.Author.Needs.{needs}
 use Rattle.records.proofs.comes_before.Statement.{statement}
 use Rattle.records.proofs.comes_before.Tie as tie
-use Rattle.records.proofs.comes_before.Reads as reads
-use Rattle.records.proofs.comes_before.Lts as lts
-use Rattle.hash.proofs.less.Reads as less-reads
-use Rattle.records.proofs.hash_of.Reads as hash-of-reads
 
 hash-of-requires : tie.Need-hash-of-requires
 hash-of-requires c κs = search needs

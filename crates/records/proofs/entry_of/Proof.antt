@@ -1,19 +1,10 @@
 -- `records::entry_of` meets its contract. Assumes nothing.
-use Rattle.records.proofs.Words.{hash-words, entry-words, field-words}
+use Rattle.records.proofs.Words.{entry-words}
 use Rattle.laws.specs.Tables.{entry-decode}
-use mathlib.Core.Path.{_≡_, refl, sym, ap, _∙_, subst}
-use Prim.Native.Nat.{ℕ, zero, suc, _+_, _-_, _*_, _≤_, _<_}
-use native.Mathlib.Omega.{arith}
-use native.Mathlib.Numerals.{add-one}
-use mathlib.Core.Bool.{Bool, true, false, cond, _&&_}
-use mathlib.Core.List.{List, [], _∷_, _++_, map}
-use lib.ListN.{length, take, drop, getD, set, replicate}
+use mathlib.Core.Path.{sym, _∙_}
 use borrow.Author.Needs.{needs}
 use Rattle.records.proofs.entry_of.Statement.{statement}
 use Rattle.records.proofs.entry_of.Tie as tie
-use Rattle.records.proofs.entry_of.Reads as reads
-use Rattle.records.proofs.entry_of.Lts as lts
-use Rattle.records.proofs.hash_of.Reads as hash-of-reads
 
 hash-of-requires : tie.Need-hash-of-requires
 hash-of-requires c κs = search needs

@@ -13,11 +13,6 @@ use Rattle.model.specs.declared.Hash.{Hash}
 use borrow.Author.Needs.{needs}
 use Rattle.records.proofs.find.Statement.{statement}
 use Rattle.records.proofs.find.Tie as tie
-use Rattle.records.proofs.find.Reads as reads
-use Rattle.records.proofs.find.Lts as lts
-use Rattle.hash.proofs.equal.Reads as equal-reads
-use Rattle.records.proofs.hash_of.Reads as hash-of-reads
-use Rattle.records.proofs.parting.Reads as parting-reads
 
 -- the record at k
 at : (m k : ℕ) (ws : List ℕ) (h g : Hash) (b : Bool) → k < m → m ≤ 256 → g ≡ entry-at (drop k ws) .hash → b ≡ same g h → same (getD (take m (rows 256 ws)) k blank .hash) h ≡ b

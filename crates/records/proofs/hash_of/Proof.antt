@@ -1,18 +1,8 @@
 -- `records::hash_of` meets its contract. Assumes nothing.
-use Rattle.records.proofs.Words.{hash-words, entry-words, field-words}
-use Rattle.model.specs.Layout.{decode, entry-at, rows, field, Table}
-use mathlib.Core.Path.{_≡_, refl, sym, ap, _∙_, subst}
-use Prim.Native.Nat.{ℕ, zero, suc, _+_, _-_, _*_, _≤_, _<_}
-use native.Mathlib.Omega.{arith}
-use native.Mathlib.Numerals.{add-one}
-use mathlib.Core.Bool.{Bool, true, false, cond, _&&_}
-use mathlib.Core.List.{List, [], _∷_, _++_, map}
-use lib.ListN.{length, take, drop, getD, set, replicate}
+use Rattle.records.proofs.Words.{hash-words}
 use borrow.Author.Needs.{needs}
 use Rattle.records.proofs.hash_of.Statement.{statement}
 use Rattle.records.proofs.hash_of.Tie as tie
-use Rattle.records.proofs.hash_of.Reads as reads
-use Rattle.records.proofs.hash_of.Lts as lts
 
 mul-t3 : tie.Need-mul-t3
 mul-t3 c = search needs

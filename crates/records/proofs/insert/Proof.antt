@@ -3,20 +3,12 @@ use Rattle.model.specs.Lists.{inserted}
 use Rattle.laws.specs.Rows.{mid}
 use Rattle.laws.specs.Tables.{put-col, decode-put-in}
 use Rattle.laws.specs.Rows.{Upto, upto-start, upto-call}
-use mathlib.Core.Path.{_≡_, refl, sym, ap, _∙_, subst}
-use Prim.Native.Nat.{ℕ, zero, suc, _+_, _-_, _*_, _≤_, _<_}
+use mathlib.Core.Path.{_≡_, ap, _∙_, subst}
+use Prim.Native.Nat.{ℕ, _-_, _≤_}
 use native.Mathlib.Omega.{arith}
-use native.Mathlib.Numerals.{add-one}
-use mathlib.Core.Bool.{Bool, true, false, cond, _&&_}
-use mathlib.Core.List.{List, [], _∷_, _++_, map}
-use lib.ListN.{length, take, drop, getD, set, replicate}
 use borrow.Author.Needs.{needs}
 use Rattle.records.proofs.insert.Statement.{statement}
 use Rattle.records.proofs.insert.Tie as tie
-use Rattle.records.proofs.insert.Reads as reads
-use Rattle.records.proofs.insert.Lts as lts
-use Rattle.column.proofs.insert_at.Reads as insert-at-reads
-use Rattle.records.proofs.field_of.Reads as field-of-reads
 
 abbrev Inv-loop : tie.InvT-loop
 Inv-loop words₀ at e k₀ words k = (k ≤ 8) × Upto (put-col at e) k words₀ words

@@ -6,9 +6,6 @@ use Rattle.laws.specs.Rows.{Upto, upto-start, upto-call}
 use Rattle.laws.specs.Tables.{kept-col, decode-kept}
 use Rattle.records.proofs.keep.Statement.{statement}
 use Rattle.records.proofs.keep.Tie as tie
-use Rattle.records.proofs.keep.Reads as reads
-use Rattle.records.proofs.keep.Lts as lts
-use Rattle.column.proofs.keep_unmarked.Reads as keep-unmarked-reads
 
 abbrev Inv-loop : tie.InvT-loop
 Inv-loop words₀ marks k₀ words k = (k ≤ 8) × Upto (kept-col marks) k words₀ words

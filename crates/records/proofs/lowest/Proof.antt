@@ -6,10 +6,6 @@ use Rattle.records.specs.Places.{front-at}
 use borrow.Author.Needs.{needs}
 use Rattle.records.proofs.lowest.Statement.{statement}
 use Rattle.records.proofs.lowest.Tie as tie
-use Rattle.records.proofs.lowest.Reads as reads
-use Rattle.records.proofs.lowest.Lts as lts
-use Rattle.records.proofs.entry_of.Reads as entry-of-reads
-use Rattle.records.proofs.lowest_place.Reads as lowest-place-reads
 
 lowest-place-requires : tie.Need-lowest-place-requires
 lowest-place-requires c κs = search needs

@@ -14,8 +14,6 @@ use Rattle.model.specs.declared.Front.the-variants.{At, Nothing}
 use Rattle.records.specs.Places.{front-at}
 use Rattle.records.proofs.lowest_place.Statement.{statement}
 use Rattle.records.proofs.lowest_place.Tie as tie
-use Rattle.records.proofs.lowest_place.Reads as reads
-use Rattle.records.proofs.lowest_place.Lts as lts
 
 -- from i on: no record yet, or the lowest is at `best`
 data Lowest (ws : List ℕ) (m best low i : ℕ) : Type 0 where

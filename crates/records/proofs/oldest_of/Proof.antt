@@ -14,9 +14,6 @@ use Rattle.laws.specs.Rows.{live-cons, live-end, word-at}
 use Rattle.records.specs.Places.{stored}
 use Rattle.records.proofs.oldest_of.Statement.{statement}
 use Rattle.records.proofs.oldest_of.Tie as tie
-use Rattle.records.proofs.oldest_of.Reads as reads
-use Rattle.records.proofs.oldest_of.Lts as lts
-use Rattle.records.proofs.sooner_if.Reads as sooner-if-reads
 
 -- a turn
 turn : (o m j : ℕ) (ws : List ℕ) (found found′ : ℕ) → j < m → m ≤ 256 → found ≡ oldest o (drop (suc j) (take m (rows 256 ws)))

@@ -15,9 +15,6 @@ use Rattle.model.specs.declared.Entry.{Entry}
 use Rattle.model.specs.declared.Hash.{Hash}
 use Rattle.records.proofs.parting.Statement.{statement}
 use Rattle.records.proofs.parting.Tie as tie
-use Rattle.records.proofs.parting.Reads as reads
-use Rattle.records.proofs.parting.Lts as lts
-use Rattle.records.proofs.comes_before.Reads as comes-before-reads
 
 -- the first m records
 abbrev L : ℕ → List ℕ → List Entry

@@ -14,8 +14,6 @@ use Rattle.model.specs.Layout.{entry-at, rows, decode}
 use Rattle.laws.specs.Rows.{live-cons, live-end, word-at}
 use Rattle.records.proofs.pending_count_for.Statement.{statement}
 use Rattle.records.proofs.pending_count_for.Tie as tie
-use Rattle.records.proofs.pending_count_for.Reads as reads
-use Rattle.records.proofs.pending_count_for.Lts as lts
 
 -- a turn, by its test
 turn : (o m j n : ℕ) (ws : List ℕ) (b : Bool) → j < m → m ≤ 256 → eqb (getD ws (j + 1024) 0) o ≡ b → n ≡ pending-count-for o (drop (suc j) (take m (rows 256 ws)))

@@ -1,14 +1,11 @@
 -- `records::remove` meets its contract: at the loop's head the columns below k are done. Assumes nothing.
-use mathlib.Core.Path.{_≡_, refl, sym, ap, _∙_, subst}
+use mathlib.Core.Path.{_≡_, subst}
 use Prim.Native.Nat.{ℕ, _-_, _≤_}
 use native.Mathlib.Omega.{arith}
 use Rattle.laws.specs.Rows.{Upto, upto-start, upto-call}
 use Rattle.laws.specs.Tables.{removed-col, decode-removed}
 use Rattle.records.proofs.remove.Statement.{statement}
 use Rattle.records.proofs.remove.Tie as tie
-use Rattle.records.proofs.remove.Reads as reads
-use Rattle.records.proofs.remove.Lts as lts
-use Rattle.column.proofs.remove_at.Reads as remove-at-reads
 
 abbrev Inv-loop : tie.InvT-loop
 Inv-loop words₀ at k₀ words k = (k ≤ 8) × Upto (removed-col at) k words₀ words

@@ -3,9 +3,6 @@ use borrow.Author.Tests.{eq-eqb, ne-eqb}
 use borrow.Author.Needs.{needs}
 use Rattle.records.proofs.sooner_if.Statement.{statement}
 use Rattle.records.proofs.sooner_if.Tie as tie
-use Rattle.records.proofs.sooner_if.Reads as reads
-use Rattle.records.proofs.sooner_if.Lts as lts
-use Rattle.records.proofs.sooner_of.Reads as sooner-of-reads
 
 sooner-of-requires : tie.Need-sooner-of-requires
 sooner-of-requires c κs = search needs

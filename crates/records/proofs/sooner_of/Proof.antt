@@ -5,8 +5,6 @@ use Rattle.laws.specs.Numbers.{lesser-first, lesser-second}
 use borrow.Author.Needs.{needs}
 use Rattle.records.proofs.sooner_of.Statement.{statement}
 use Rattle.records.proofs.sooner_of.Tie as tie
-use Rattle.records.proofs.sooner_of.Reads as reads
-use Rattle.records.proofs.sooner_of.Lts as lts
 
 enum-told : tie.Need-enum-told
 enum-told c = search needs

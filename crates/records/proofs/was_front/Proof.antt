@@ -14,8 +14,6 @@ use Rattle.model.specs.Layout.{entry-at, rows, decode}
 use Rattle.laws.specs.Rows.{live-cons, live-end, word-at}
 use Rattle.records.proofs.was_front.Statement.{statement}
 use Rattle.records.proofs.was_front.Tie as tie
-use Rattle.records.proofs.was_front.Reads as reads
-use Rattle.records.proofs.was_front.Lts as lts
 
 -- a turn, by its test
 turn : (n m i : ℕ) (ws : List ℕ) (b : Bool) → i < m → m ≤ 256 → ltb n (getD ws (i + 1536) 0) ≡ b

@@ -4,9 +4,6 @@ use Rattle.model.specs.Layout.{decode}
 use borrow.Author.Needs.{needs}
 use Rattle.seats.proofs.active_downloading_peers.Statement.{statement}
 use Rattle.seats.proofs.active_downloading_peers.Tie as tie
-use Rattle.seats.proofs.active_downloading_peers.Reads as reads
-use Rattle.seats.proofs.active_downloading_peers.Lts as lts
-use Rattle.seats.proofs.count_present.Reads as count-present-reads
 
 sub-count-present : tie.Need-sub-count-present
 sub-count-present c = search needs

@@ -5,8 +5,6 @@ use Rattle.laws.specs.Tables.{seat-word}
 use borrow.Author.Needs.{needs}
 use Rattle.seats.proofs.body_of.Statement.{statement}
 use Rattle.seats.proofs.body_of.Tie as tie
-use Rattle.seats.proofs.body_of.Reads as reads
-use Rattle.seats.proofs.body_of.Lts as lts
 
 add-result : tie.Need-add-result
 add-result c = search needs

@@ -9,9 +9,6 @@ use Rattle.laws.specs.Tables.{with-racers, decode-racers, sized-decode}
 use borrow.Author.Needs.{needs}
 use Rattle.seats.proofs.clear_racers.Statement.{statement}
 use Rattle.seats.proofs.clear_racers.Tie as tie
-use Rattle.seats.proofs.clear_racers.Reads as reads
-use Rattle.seats.proofs.clear_racers.Lts as lts
-use Rattle.column.proofs.clear_from.Reads as clear-from-reads
 
 sub-clear-from : tie.Need-sub-clear-from
 sub-clear-from c = search needs

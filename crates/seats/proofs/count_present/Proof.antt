@@ -10,11 +10,8 @@ use lib.Seq.{drop-cons}
 use Rattle.model.specs.Lists.{count}
 use Rattle.model.specs.Numbers.{present}
 use Rattle.laws.specs.Numbers.{present-none, present-some}
-use Rattle.laws.specs.Rows.{col}
 use Rattle.seats.proofs.count_present.Statement.{statement}
 use Rattle.seats.proofs.count_present.Tie as tie
-use Rattle.seats.proofs.count_present.Reads as reads
-use Rattle.seats.proofs.count_present.Lts as lts
 
 -- a turn, by its test
 turn : (l : List ℕ) (i j n : ℕ) (b : Bool) → i ≡ suc j → j < length l → present (getD l j 0) ≡ b → n ≡ count present (drop i l) → cond b (suc n) n ≡ count present (drop j l)

@@ -12,13 +12,9 @@ use borrow.Author.Needs.{needs}
 use Rattle.model.specs.Hash.{same}
 use Rattle.model.specs.Seats.{keep-seats}
 use Rattle.model.specs.LettingGo.{flagged}
-use Rattle.laws.specs.Rows.{col}
 use Rattle.column.proofs.Laws.{over, over-step, over-read, over-done}
 use Rattle.seats.proofs.keep_flagged.Statement.{statement}
 use Rattle.seats.proofs.keep_flagged.Tie as tie
-use Rattle.seats.proofs.keep_flagged.Reads as reads
-use Rattle.seats.proofs.keep_flagged.Lts as lts
-use Rattle.seats.proofs.kept_word.Reads as kept-word-reads
 
 -- the result
 abbrev T : List ℕ → List ℕ → List ℕ

@@ -7,9 +7,6 @@ use Rattle.laws.specs.Tables.{with-racers, decode-racers, sized-decode}
 use borrow.Author.Needs.{needs}
 use Rattle.seats.proofs.keep_racers.Statement.{statement}
 use Rattle.seats.proofs.keep_racers.Tie as tie
-use Rattle.seats.proofs.keep_racers.Reads as reads
-use Rattle.seats.proofs.keep_racers.Lts as lts
-use Rattle.seats.proofs.keep_flagged.Reads as keep-flagged-reads
 
 sub-keep-flagged : tie.Need-sub-keep-flagged
 sub-keep-flagged c = search needs

@@ -13,9 +13,6 @@ use Rattle.seats.specs.Resets.{seats-kept}
 use borrow.Author.Needs.{needs}
 use Rattle.seats.proofs.keep_seats.Statement.{statement}
 use Rattle.seats.proofs.keep_seats.Tie as tie
-use Rattle.seats.proofs.keep_seats.Reads as reads
-use Rattle.seats.proofs.keep_seats.Lts as lts
-use Rattle.seats.proofs.keep_flagged.Reads as keep-flagged-reads
 
 -- the starts back, and then the last bodies
 kept-both : (F : List ℕ → List ℕ) (ws y z : List ℕ) → length ws ≡ 4096 → length y ≡ length (take 256 (drop 2304 ws)) → y ≡ F (take 256 (drop 2304 ws))

@@ -2,8 +2,6 @@
 use borrow.Author.Tests.{eq-eqb, ne-eqb}
 use Rattle.seats.proofs.kept_word.Statement.{statement}
 use Rattle.seats.proofs.kept_word.Tie as tie
-use Rattle.seats.proofs.kept_word.Reads as reads
-use Rattle.seats.proofs.kept_word.Lts as lts
 
 returns : tie.Need-returns
 returns c = rw (eq-eqb _ _ (c .if1 .taken))

@@ -8,9 +8,6 @@ use Rattle.laws.specs.Tables.{with-bodies}
 use borrow.Author.Needs.{needs}
 use Rattle.seats.proofs.note_body.Statement.{statement}
 use Rattle.seats.proofs.note_body.Tie as tie
-use Rattle.seats.proofs.note_body.Reads as reads
-use Rattle.seats.proofs.note_body.Lts as lts
-use Rattle.seats.proofs.set_body.Reads as set-body-reads
 
 add-set-body : tie.Need-add-set-body
 add-set-body c = search needs

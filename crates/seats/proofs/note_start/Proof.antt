@@ -8,11 +8,6 @@ use Rattle.laws.specs.Tables.{with-starts}
 use borrow.Author.Needs.{needs}
 use Rattle.seats.proofs.note_start.Statement.{statement}
 use Rattle.seats.proofs.note_start.Tie as tie
-use Rattle.seats.proofs.note_start.Reads as reads
-use Rattle.seats.proofs.note_start.Lts as lts
-use Rattle.seats.proofs.noted.Reads as noted-reads
-use Rattle.seats.proofs.set_start.Reads as set-start-reads
-use Rattle.seats.proofs.start_of.Reads as start-of-reads
 
 start-of-requires : tie.Need-start-of-requires
 start-of-requires c κs = search needs

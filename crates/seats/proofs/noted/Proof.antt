@@ -6,8 +6,6 @@ use Rattle.model.specs.Seats.{start-noted}
 use borrow.Author.Needs.{needs}
 use Rattle.seats.proofs.noted.Statement.{statement}
 use Rattle.seats.proofs.noted.Tie as tie
-use Rattle.seats.proofs.noted.Reads as reads
-use Rattle.seats.proofs.noted.Lts as lts
 
 some : (now s : ℕ) → (s ≡ 0 → ⊥) → start-noted now s ≡ s
 some now zero n = absurd (n refl)

@@ -3,9 +3,6 @@ use Rattle.model.specs.Layout.{decode}
 use borrow.Author.Needs.{needs}
 use Rattle.seats.proofs.racers_left.Statement.{statement}
 use Rattle.seats.proofs.racers_left.Tie as tie
-use Rattle.seats.proofs.racers_left.Reads as reads
-use Rattle.seats.proofs.racers_left.Lts as lts
-use Rattle.seats.proofs.count_present.Reads as count-present-reads
 
 sub-count-present : tie.Need-sub-count-present
 sub-count-present c = search needs

@@ -10,14 +10,6 @@ use Rattle.seats.specs.Resets.{seat-reset}
 use borrow.Author.Needs.{needs}
 use Rattle.seats.proofs.reset_owner_queue_start.Statement.{statement}
 use Rattle.seats.proofs.reset_owner_queue_start.Tie as tie
-use Rattle.seats.proofs.reset_owner_queue_start.Reads as reads
-use Rattle.seats.proofs.reset_owner_queue_start.Lts as lts
-use Rattle.seats.proofs.body_of.Reads as body-of-reads
-use Rattle.seats.proofs.body_reset.Reads as body-reset-reads
-use Rattle.seats.proofs.set_body.Reads as set-body-reads
-use Rattle.seats.proofs.set_start.Reads as set-start-reads
-use Rattle.seats.proofs.start_of.Reads as start-of-reads
-use Rattle.seats.proofs.start_reset.Reads as start-reset-reads
 
 both : (owner s b : ℕ) (t t₁ t₂ : Table) → t₁ ≡ with-starts (set (t .starts) owner s) t → t₂ ≡ with-bodies (set (t₁ .bodies) owner b) t₁
     → t₂ ≡ with-bodies (set (t .bodies) owner b) (with-starts (set (t .starts) owner s) t)

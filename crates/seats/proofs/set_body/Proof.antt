@@ -7,9 +7,6 @@ use Rattle.laws.specs.Tables.{with-bodies, decode-bodies, sized-decode}
 use borrow.Author.Needs.{needs}
 use Rattle.seats.proofs.set_body.Statement.{statement}
 use Rattle.seats.proofs.set_body.Tie as tie
-use Rattle.seats.proofs.set_body.Reads as reads
-use Rattle.seats.proofs.set_body.Lts as lts
-use Rattle.column.proofs.store.Reads as store-reads
 
 sub-store : tie.Need-sub-store
 sub-store c = search needs

@@ -7,9 +7,6 @@ use Rattle.laws.specs.Tables.{with-racers, decode-racers, sized-decode}
 use borrow.Author.Needs.{needs}
 use Rattle.seats.proofs.set_racer.Statement.{statement}
 use Rattle.seats.proofs.set_racer.Tie as tie
-use Rattle.seats.proofs.set_racer.Reads as reads
-use Rattle.seats.proofs.set_racer.Lts as lts
-use Rattle.column.proofs.store.Reads as store-reads
 
 sub-store : tie.Need-sub-store
 sub-store c = search needs

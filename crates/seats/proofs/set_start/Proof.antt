@@ -7,9 +7,6 @@ use Rattle.laws.specs.Tables.{with-starts, decode-starts, sized-decode}
 use borrow.Author.Needs.{needs}
 use Rattle.seats.proofs.set_start.Statement.{statement}
 use Rattle.seats.proofs.set_start.Tie as tie
-use Rattle.seats.proofs.set_start.Reads as reads
-use Rattle.seats.proofs.set_start.Lts as lts
-use Rattle.column.proofs.store.Reads as store-reads
 
 sub-store : tie.Need-sub-store
 sub-store c = search needs

@@ -9,9 +9,6 @@ use Rattle.model.specs.Seats.{start-reset}
 use borrow.Author.Needs.{needs}
 use Rattle.seats.proofs.start_reset.Statement.{statement}
 use Rattle.seats.proofs.start_reset.Tie as tie
-use Rattle.seats.proofs.start_reset.Reads as reads
-use Rattle.seats.proofs.start_reset.Lts as lts
-use Rattle.numbers.proofs.greater.Reads as greater-reads
 
 -- the cases in which some are left
 module _ (now t u start : ℕ) where

@@ -4,11 +4,6 @@ use Rattle.model.specs.Layout.{cold-of}
 use borrow.Author.Needs.{needs}
 use Rattle.states.proofs.load_cold.Statement.{statement}
 use Rattle.states.proofs.load_cold.Tie as tie
-use Rattle.states.proofs.load_cold.Reads as reads
-use Rattle.states.proofs.load_cold.Lts as lts
-use Rattle.states.proofs.cold_of.Reads as cold-of-reads
-use Rattle.layout.proofs.hash_of.Reads as hash-of-reads
-use Rattle.layout.proofs.word_of.Reads as word-of-reads
 
 word-of-requires : tie.Need-word-of-requires
 word-of-requires c κs = search needs

@@ -4,11 +4,6 @@ use Rattle.model.specs.Layout.{observation-of}
 use borrow.Author.Needs.{needs}
 use Rattle.states.proofs.load_observation.Statement.{statement}
 use Rattle.states.proofs.load_observation.Tie as tie
-use Rattle.states.proofs.load_observation.Reads as reads
-use Rattle.states.proofs.load_observation.Lts as lts
-use Rattle.layout.proofs.hash_of.Reads as hash-of-reads
-use Rattle.states.proofs.observation_of.Reads as observation-of-reads
-use Rattle.layout.proofs.word_of.Reads as word-of-reads
 
 word-of-requires : tie.Need-word-of-requires
 word-of-requires c κs = search needs

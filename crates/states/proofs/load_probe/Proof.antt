@@ -4,10 +4,6 @@ use Rattle.model.specs.Layout.{probe-of}
 use borrow.Author.Needs.{needs}
 use Rattle.states.proofs.load_probe.Statement.{statement}
 use Rattle.states.proofs.load_probe.Tie as tie
-use Rattle.states.proofs.load_probe.Reads as reads
-use Rattle.states.proofs.load_probe.Lts as lts
-use Rattle.states.proofs.probe_of.Reads as probe-of-reads
-use Rattle.layout.proofs.word_of.Reads as word-of-reads
 
 word-of-requires : tie.Need-word-of-requires
 word-of-requires c κs = search needs

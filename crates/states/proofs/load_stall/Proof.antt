@@ -4,11 +4,6 @@ use Rattle.model.specs.Layout.{stall-of}
 use borrow.Author.Needs.{needs}
 use Rattle.states.proofs.load_stall.Statement.{statement}
 use Rattle.states.proofs.load_stall.Tie as tie
-use Rattle.states.proofs.load_stall.Reads as reads
-use Rattle.states.proofs.load_stall.Lts as lts
-use Rattle.layout.proofs.hash_of.Reads as hash-of-reads
-use Rattle.states.proofs.stall_of.Reads as stall-of-reads
-use Rattle.layout.proofs.word_of.Reads as word-of-reads
 
 word-of-requires : tie.Need-word-of-requires
 word-of-requires c κs = search needs

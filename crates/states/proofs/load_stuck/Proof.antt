@@ -4,11 +4,6 @@ use Rattle.model.specs.Layout.{stuck-of}
 use borrow.Author.Needs.{needs}
 use Rattle.states.proofs.load_stuck.Statement.{statement}
 use Rattle.states.proofs.load_stuck.Tie as tie
-use Rattle.states.proofs.load_stuck.Reads as reads
-use Rattle.states.proofs.load_stuck.Lts as lts
-use Rattle.layout.proofs.hash_of.Reads as hash-of-reads
-use Rattle.states.proofs.stuck_of.Reads as stuck-of-reads
-use Rattle.layout.proofs.word_of.Reads as word-of-reads
 
 word-of-requires : tie.Need-word-of-requires
 word-of-requires c κs = search needs

@@ -2,8 +2,6 @@
 use borrow.Author.Needs.{needs}
 use Rattle.states.proofs.observation_list.Statement.{statement}
 use Rattle.states.proofs.observation_list.Tie as tie
-use Rattle.states.proofs.observation_list.Reads as reads
-use Rattle.states.proofs.observation_list.Lts as lts
 
 enum-told : tie.Need-enum-told
 enum-told c = search needs

@@ -3,8 +3,6 @@ use Rattle.states.proofs.Cases.{swept-some}
 use borrow.Author.Needs.{needs}
 use Rattle.states.proofs.observation_of.Statement.{statement}
 use Rattle.states.proofs.observation_of.Tie as tie
-use Rattle.states.proofs.observation_of.Reads as reads
-use Rattle.states.proofs.observation_of.Lts as lts
 
 returns : tie.Need-returns
 returns c = search needs

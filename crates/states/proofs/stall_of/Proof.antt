@@ -4,8 +4,6 @@ use Rattle.states.proofs.Cases.{stall-some}
 use borrow.Author.Needs.{needs}
 use Rattle.states.proofs.stall_of.Statement.{statement}
 use Rattle.states.proofs.stall_of.Tie as tie
-use Rattle.states.proofs.stall_of.Reads as reads
-use Rattle.states.proofs.stall_of.Lts as lts
 
 returns : tie.Need-returns
 returns c = search needs

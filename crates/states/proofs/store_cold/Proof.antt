@@ -8,10 +8,6 @@ use Rattle.laws.specs.Tables.{with-words}
 use borrow.Author.Needs.{needs}
 use Rattle.states.proofs.store_cold.Statement.{statement}
 use Rattle.states.proofs.store_cold.Tie as tie
-use Rattle.states.proofs.store_cold.Reads as reads
-use Rattle.states.proofs.store_cold.Lts as lts
-use Rattle.states.proofs.cold_list.Reads as cold-list-reads
-use Rattle.layout.proofs.store_at.Reads as store-at-reads
 
 cold-list-requires : tie.Need-cold-list-requires
 cold-list-requires c κs = search needs

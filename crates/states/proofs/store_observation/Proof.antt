@@ -8,10 +8,6 @@ use Rattle.laws.specs.Tables.{with-words}
 use borrow.Author.Needs.{needs}
 use Rattle.states.proofs.store_observation.Statement.{statement}
 use Rattle.states.proofs.store_observation.Tie as tie
-use Rattle.states.proofs.store_observation.Reads as reads
-use Rattle.states.proofs.store_observation.Lts as lts
-use Rattle.states.proofs.observation_list.Reads as observation-list-reads
-use Rattle.layout.proofs.store_at.Reads as store-at-reads
 
 observation-list-requires : tie.Need-observation-list-requires
 observation-list-requires c κs = search needs

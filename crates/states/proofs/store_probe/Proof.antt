@@ -8,10 +8,6 @@ use Rattle.laws.specs.Tables.{with-words}
 use borrow.Author.Needs.{needs}
 use Rattle.states.proofs.store_probe.Statement.{statement}
 use Rattle.states.proofs.store_probe.Tie as tie
-use Rattle.states.proofs.store_probe.Reads as reads
-use Rattle.states.proofs.store_probe.Lts as lts
-use Rattle.states.proofs.probe_list.Reads as probe-list-reads
-use Rattle.layout.proofs.store_at.Reads as store-at-reads
 
 probe-list-requires : tie.Need-probe-list-requires
 probe-list-requires c κs = search needs

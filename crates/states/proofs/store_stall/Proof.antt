@@ -8,10 +8,6 @@ use Rattle.laws.specs.Tables.{with-words}
 use borrow.Author.Needs.{needs}
 use Rattle.states.proofs.store_stall.Statement.{statement}
 use Rattle.states.proofs.store_stall.Tie as tie
-use Rattle.states.proofs.store_stall.Reads as reads
-use Rattle.states.proofs.store_stall.Lts as lts
-use Rattle.states.proofs.stall_list.Reads as stall-list-reads
-use Rattle.layout.proofs.store_at.Reads as store-at-reads
 
 stall-list-requires : tie.Need-stall-list-requires
 stall-list-requires c κs = search needs

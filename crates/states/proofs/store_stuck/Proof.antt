@@ -8,10 +8,6 @@ use Rattle.laws.specs.Tables.{with-words}
 use borrow.Author.Needs.{needs}
 use Rattle.states.proofs.store_stuck.Statement.{statement}
 use Rattle.states.proofs.store_stuck.Tie as tie
-use Rattle.states.proofs.store_stuck.Reads as reads
-use Rattle.states.proofs.store_stuck.Lts as lts
-use Rattle.layout.proofs.store_at.Reads as store-at-reads
-use Rattle.states.proofs.stuck_list.Reads as stuck-list-reads
 
 stuck-list-requires : tie.Need-stuck-list-requires
 stuck-list-requires c κs = search needs

@@ -16,7 +16,7 @@ add-result : tie.Need-add-result
 add-result c = search needs
 
 mul-result : tie.Need-mul-result
-mul-result c = omega (arith, product-le (c .before .args .spacing) max-duration (2 + c .minus .result) 257 (omega arith) (omega arith))
+mul-result c = omega (arith, product-le (c .before .args .spacing) max-duration (2 + c .minus .result) 1000 (omega arith) (omega arith))
 
 returns : tie.Need-returns
 unfolding owner-timeout

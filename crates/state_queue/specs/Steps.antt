@@ -1,0 +1,209 @@
+-- The entries of the window that the words hold, and what a step on them and on their seats is to the window. Assumes nothing.
+use mathlib.Core.Path.{_≡_, refl, sym, ap, subst, _∙_}
+use mathlib.Core.Bool.{true, cond}
+use mathlib.Core.List.{List, [], _∷_, _++_}
+use Prim.Native.Nat.{ℕ, zero, suc, _+_, _-_, _≤_, _<_, suc-le-suc, zero-le}
+use native.Mathlib.Nat.{not-suc-le-zero, le-of-suc-le-suc}
+use native.Mathlib.Omega.{arith}
+use lib.ListN.{length, getD, set, take, drop, length-set}
+use lib.Seq.{getD-take}
+use lib.Dec.{eqb}
+use borrow.Author.Tests.{eqb-true}
+use Rattle.model.specs.Lists.{pad, removeAt, insertAt, keepBy}
+use Rattle.model.specs.Hash.{key, same}
+use Rattle.model.specs.Records.{remove}
+use Rattle.model.specs.Seats.{oldest, reset-owner-queue-start, start-reset, body-reset, start-noted, keep-seats}
+use Rattle.model.specs.LettingGo.{without, kept, if-kept, flagged}
+use Rattle.model.specs.Calls.{put, started, body-noted}
+use Rattle.model.specs.Layout.{Table, blank, rising, decode, read, window-of, table, word, live, head-words, counts-words, small-words}
+use Rattle.model.specs.Window.{Window, Queue, queue, with-queue}
+use Rattle.model.specs.declared.Hash.{Hash}
+use Rattle.model.specs.declared.Entry.{Entry}
+use Rattle.laws.specs.Tables.{with-words, with-head, replaced, with-entries, with-starts, with-bodies, removed, put-in, kept-rows}
+use Rattle.laws.specs.Groups.{queue-in, removed-in, put-in-in, kept-in}
+use Rattle.laws.specs.Whole.{Shaped, Whole, Holds, lifted, words-shaped}
+use Rattle.laws.specs.Parts.{length-keep}
+use Rattle.records.specs.Places.{Finds, here-found, free-found}
+use Rattle.records.specs.declared.Place.the-variants.{Here, Free}
+use Rattle.seats.specs.Resets.{seat-reset, seats-kept}
+
+-- ---- the entries
+
+module _ (ws : List ℕ) (h : Whole ws) where
+  pub count-is : word 1 (decode ws) ≡ length (window-of ws .queue .pending)
+  unfolding word table head-words counts-words
+  count-is = ap (word 1) (sym (h .kept))
+
+  pub few : length (window-of ws .queue .pending) ≤ 256
+  few = words-shaped ws (h .long) .few
+
+  pub live-is : (n : ℕ) → n ≡ length (window-of ws .queue .pending) → take n (decode ws .entries) ≡ window-of ws .queue .pending
+  unfolding window-of read live
+  live-is n e = ap (λ (m : ℕ). take m (decode ws .entries)) (e ∙ sym count-is)
+
+  pub entry-is : (i : ℕ) → i < length (window-of ws .queue .pending) → getD (decode ws .entries) i blank ≡ getD (window-of ws .queue .pending) i blank
+  entry-is i b =
+      let n = length (window-of ws .queue .pending) in
+      sym (getD-take n (decode ws .entries) i blank b) ∙ ap (λ (l : List Entry). getD l i blank) (live-is n refl)
+
+-- ---- one out, one in, some kept
+
+length-removeAt : (k : ℕ) (l : List Entry) → k < length l → suc (length (removeAt k l)) ≡ length l
+length-removeAt zero [] h = absurd (not-suc-le-zero h)
+length-removeAt zero (x ∷ l) h = refl
+length-removeAt (suc k) [] h = absurd (not-suc-le-zero h)
+length-removeAt (suc k) (x ∷ l) h = ap suc (length-removeAt k l (le-of-suc-le-suc h))
+
+length-insertAt : (k : ℕ) (e : Entry) (l : List Entry) → length (insertAt k e l) ≡ suc (length l)
+length-insertAt zero e l = refl
+length-insertAt (suc k) e [] = refl
+length-insertAt (suc k) e (x ∷ l) = ap suc (length-insertAt k e l)
+
+length-keepBy : (ms : List ℕ) (l : List Entry) → length (keepBy ms l) ≤ length l
+length-keepBy [] l = omega arith
+length-keepBy (m ∷ ms) [] = omega arith
+length-keepBy (zero ∷ ms) (x ∷ l) = omega (arith, length-keepBy ms l)
+length-keepBy (suc m ∷ ms) (x ∷ l) = omega (arith, length-keepBy ms l)
+
+-- the window's queue with another total and other entries
+abbrev pub entries-put : ℕ → List Entry → Window → Window
+entries-put n es w = with-queue (queue n es (w .queue .starts) (w .queue .bodies)) w
+
+module _ (w : Window) (s : Shaped w) where
+  pub out-in : (at n left : ℕ) → at < length (w .queue .pending) → suc n ≡ length (w .queue .pending)
+      → with-words 3 (left ∷ []) (with-words 1 (n ∷ []) (removed at (table w))) ≡ table (entries-put left (removeAt at (w .queue .pending)) w)
+  out-in at n left h e =
+      let c : n ≡ length (removeAt at (w .queue .pending)) = omega (arith, length-removeAt at (w .queue .pending) h) in
+      (λ i. with-words 3 (left ∷ []) (with-words 1 (c i ∷ []) (removed-in w s at h i))) ∙ queue-in w left (removeAt at (w .queue .pending))
+
+  pub out-few : (at : ℕ) → at < length (w .queue .pending) → length (removeAt at (w .queue .pending)) ≤ 256
+  out-few at h = omega (arith, length-removeAt at (w .queue .pending) h, s .few)
+
+  pub into-in : (at n more : ℕ) (e : Entry) → at ≤ length (w .queue .pending) → length (w .queue .pending) < 256 → n ≡ suc (length (w .queue .pending))
+      → with-words 3 (more ∷ []) (with-words 1 (n ∷ []) (put-in at e (table w))) ≡ table (entries-put more (insertAt at e (w .queue .pending)) w)
+  into-in at n more e h b q =
+      let c : n ≡ length (insertAt at e (w .queue .pending)) = omega (arith, length-insertAt at e (w .queue .pending)) in
+      (λ i. with-words 3 (more ∷ []) (with-words 1 (c i ∷ []) (put-in-in w s at e h b i))) ∙ queue-in w more (insertAt at e (w .queue .pending))
+
+  pub into-few : (at : ℕ) (e : Entry) → length (w .queue .pending) < 256 → length (insertAt at e (w .queue .pending)) ≤ 256
+  into-few at e b = omega (arith, length-insertAt at e (w .queue .pending))
+
+  pub some-in : (ms : List ℕ) (n left : ℕ) → length ms ≡ 256 → n ≡ length (keepBy (take (length (w .queue .pending)) ms) (w .queue .pending))
+      → with-words 3 (left ∷ []) (with-words 1 (n ∷ []) (kept-rows ms (table w))) ≡ table (entries-put left (keepBy (take (length (w .queue .pending)) ms) (w .queue .pending)) w)
+  some-in ms n left h e =
+      (λ i. with-words 3 (left ∷ []) (with-words 1 (e i ∷ []) (kept-in w s ms h i))) ∙ queue-in w left (keepBy (take (length (w .queue .pending)) ms) (w .queue .pending))
+
+  pub some-few : (ms : List ℕ) → length (keepBy ms (w .queue .pending)) ≤ 256
+  some-few ms = omega (arith, length-keepBy ms (w .queue .pending), s .few)
+
+-- a found entry goes out by its hash, and one that is not there goes in by its hash
+remove-alike : (g h : Hash) → key g ≡ key h → (l : List Entry) → remove g l ≡ remove h l
+unfolding remove same
+remove-alike g h e [] = refl
+remove-alike g h e (x ∷ l) = λ i. cond (eqb (key (x .hash)) (e i)) l (x ∷ remove-alike g h e l i)
+
+pub without-is : (h : Hash) (at : ℕ) (q : Queue) → rising (q .pending) ≡ true → Finds h (q .pending) (Here at)
+    → queue (q .total - getD (q .pending) at blank .estimate) (removeAt at (q .pending)) (q .starts) (q .bodies) ≡ without (getD (q .pending) at blank) q
+unfolding without same
+without-is h at q r (f, (b, s)) =
+    let e = getD (q .pending) at blank in
+    ap (λ (es : List Entry). queue (q .total - e .estimate) es (q .starts) (q .bodies))
+    (sym (remove-alike (e .hash) h (eqb-true (key (e .hash)) (key h) s) (q .pending) ∙ here-found h (q .pending) at r (f, (b, s)) .1))
+
+pub put-is : (at : ℕ) (e : Entry) (q : Queue) → rising (q .pending) ≡ true → Finds (e .hash) (q .pending) (Free at)
+    → queue (q .total + e .estimate) (insertAt at e (q .pending)) (q .starts) (q .bodies) ≡ put e q
+unfolding put
+put-is at e q r f = ap (λ (es : List Entry). queue (q .total + e .estimate) es (q .starts) (q .bodies)) (sym (free-found (e .hash) (q .pending) at r f .1 e refl))
+
+-- marks that say what goes
+pub kept-marks : (goes : Entry → ℕ) (l : List Entry) (ms : List ℕ) → length l ≤ length ms → ((i : ℕ) → i < length l → getD ms i 0 ≡ goes (getD l i blank))
+    → keepBy (take (length l) ms) l ≡ kept goes l
+unfolding kept
+kept-marks goes [] ms h f = refl
+kept-marks goes (e ∷ l) [] h f = absurd (not-suc-le-zero h)
+kept-marks goes (e ∷ l) (m ∷ ms) h f =
+    let rest = kept-marks goes l ms (le-of-suc-le-suc h) (λ i b. f (suc i) (suc-le-suc b)) in
+    λ i. if-kept (f 0 (suc-le-suc zero-le) i) e (rest i)
+
+-- ---- seats
+
+module _ (w : Window) where
+  pub reset-in : (owner removed now old : ℕ) → old ≡ oldest owner (w .queue .pending)
+      → seat-reset owner removed now old (table w) ≡ table (with-queue (reset-owner-queue-start owner removed now (w .queue)) w)
+  unfolding seat-reset with-starts with-bodies table head-words counts-words small-words reset-owner-queue-start
+  reset-in owner removed now old e = ap (λ (o : ℕ). table (with-queue (queue (w .queue .total) (w .queue .pending)
+      (set (w .queue .starts) owner (start-reset now (suc removed) o (getD (w .queue .starts) owner 0)))
+      (set (w .queue .bodies) owner (body-reset o (getD (w .queue .bodies) owner 0)))) w)) e
+
+  pub kept-seats-in : (fs : List ℕ) → seats-kept fs (table w)
+      ≡ table (with-queue (queue (w .queue .total) (w .queue .pending) (keep-seats (flagged fs) 0 (w .queue .starts)) (keep-seats (flagged fs) 0 (w .queue .bodies))) w)
+  unfolding seats-kept with-starts with-bodies table head-words counts-words small-words
+  kept-seats-in fs = refl
+
+  pub started-in : (owner now : ℕ) → with-starts (set (table w .starts) owner (start-noted now (getD (table w .starts) owner 0))) (table w) ≡ table (with-queue (started owner now (w .queue)) w)
+  unfolding with-starts table head-words counts-words small-words started
+  started-in owner now = refl
+
+  pub body-in : (owner now : ℕ) → with-bodies (set (table w .bodies) owner (suc now)) (table w) ≡ table (body-noted owner now w)
+  unfolding with-bodies table head-words counts-words small-words body-noted
+  body-in owner now = refl
+
+-- ---- the same on words, call by call
+
+pub total-is : (ws : List ℕ) → word 3 (decode ws) ≡ window-of ws .queue .total
+unfolding window-of read
+total-is ws = refl
+
+module _ (ws : List ℕ) (h : Whole ws) where
+  -- entries, count and total replaced, one after the other
+  put-so : (ws₁ ws₂ ws₃ : List ℕ) (f : Table → Table) (n m : ℕ) (es : List Entry) → decode ws₁ ≡ f (decode ws) → decode ws₂ ≡ with-words 1 (n ∷ []) (decode ws₁)
+      → decode ws₃ ≡ with-words 3 (m ∷ []) (decode ws₂) → length ws₃ ≡ length ws
+      → with-words 3 (m ∷ []) (with-words 1 (n ∷ []) (f (table (window-of ws)))) ≡ table (entries-put m es (window-of ws)) → length es ≤ 256
+      → Holds (entries-put m es (window-of ws)) ws₃
+  put-so ws₁ ws₂ ws₃ f n m es a b c l e k =
+      let s = words-shaped ws (h .long) in
+      lifted ws ws₃ (λ t. with-words 3 (m ∷ []) (with-words 1 (n ∷ []) (f t))) (entries-put m es (window-of ws)) h l
+      (c ∙ ap (with-words 3 (m ∷ [])) (b ∙ ap (with-words 1 (n ∷ [])) a)) e
+      (record { few = k; starts = s .starts; bodies = s .bodies; keys = s .keys; cooling = s .cooling; racers = s .racers; hedged = s .hedged; planned = s .planned })
+
+  pub taken : (ws₁ ws₂ ws₃ : List ℕ) (at : ℕ) (e : Entry) (total n : ℕ) → e ≡ getD (window-of ws .queue .pending) at blank → total ≡ word 3 (decode ws) → n ≡ word 1 (decode ws)
+      → at < length (window-of ws .queue .pending) → decode ws₁ ≡ removed at (decode ws) → decode ws₂ ≡ with-words 1 ((n - 1) ∷ []) (decode ws₁)
+      → decode ws₃ ≡ with-words 3 ((total - e .estimate) ∷ []) (decode ws₂) → length ws₃ ≡ length ws
+      → Holds (entries-put (window-of ws .queue .total - getD (window-of ws .queue .pending) at blank .estimate) (removeAt at (window-of ws .queue .pending)) (window-of ws)) ws₃
+  taken ws₁ ws₂ ws₃ at e total n p q r b d₁ d₂ d₃ l =
+      let w = window-of ws in
+      let s = words-shaped ws (h .long) in
+      let same : total - e .estimate ≡ w .queue .total - getD (w .queue .pending) at blank .estimate = λ i. (q ∙ total-is ws) i - p i .estimate in
+      let one : suc (n - 1) ≡ length (w .queue .pending) = omega (arith, r ∙ count-is ws h) in
+      subst (λ (m : ℕ). Holds (entries-put m (removeAt at (w .queue .pending)) w) ws₃) same
+      (put-so ws₁ ws₂ ws₃ (removed at) (n - 1) (total - e .estimate) (removeAt at (w .queue .pending)) d₁ d₂ d₃ l (out-in w s at (n - 1) (total - e .estimate) b one) (out-few w s at b))
+
+  pub given : (ws₁ ws₂ ws₃ : List ℕ) (at : ℕ) (e : Entry) (total n : ℕ) → total ≡ word 3 (decode ws) → n ≡ word 1 (decode ws) → at ≤ length (window-of ws .queue .pending)
+      → length (window-of ws .queue .pending) < 256 → decode ws₁ ≡ put-in at e (decode ws) → decode ws₂ ≡ with-words 1 ((n + 1) ∷ []) (decode ws₁)
+      → decode ws₃ ≡ with-words 3 ((total + e .estimate) ∷ []) (decode ws₂) → length ws₃ ≡ length ws
+      → Holds (entries-put (window-of ws .queue .total + e .estimate) (insertAt at e (window-of ws .queue .pending)) (window-of ws)) ws₃
+  given ws₁ ws₂ ws₃ at e total n q r b k d₁ d₂ d₃ l =
+      let w = window-of ws in
+      let s = words-shaped ws (h .long) in
+      let same : total + e .estimate ≡ w .queue .total + e .estimate = ap (λ (t : ℕ). t + e .estimate) (q ∙ total-is ws) in
+      let one : n + 1 ≡ suc (length (w .queue .pending)) = omega (arith, r ∙ count-is ws h) in
+      subst (λ (m : ℕ). Holds (entries-put m (insertAt at e (w .queue .pending)) w) ws₃) same
+      (put-so ws₁ ws₂ ws₃ (put-in at e) (n + 1) (total + e .estimate) (insertAt at e (w .queue .pending)) d₁ d₂ d₃ l (into-in w s at (n + 1) (total + e .estimate) e b k one) (into-few w s at e k))
+
+  pub left-over : (ws₁ ws₂ ws₃ ms : List ℕ) (n total : ℕ) → length ms ≡ 256 → n ≡ length (keepBy (take (length (window-of ws .queue .pending)) ms) (window-of ws .queue .pending))
+      → decode ws₁ ≡ kept-rows ms (decode ws) → decode ws₂ ≡ with-words 1 (n ∷ []) (decode ws₁) → decode ws₃ ≡ with-words 3 (total ∷ []) (decode ws₂) → length ws₃ ≡ length ws
+      → Holds (entries-put total (keepBy (take (length (window-of ws .queue .pending)) ms) (window-of ws .queue .pending)) (window-of ws)) ws₃
+  left-over ws₁ ws₂ ws₃ ms n total k c d₁ d₂ d₃ l =
+      let w = window-of ws in
+      let s = words-shaped ws (h .long) in
+      put-so ws₁ ws₂ ws₃ (kept-rows ms) n total _ d₁ d₂ d₃ l (some-in w s ms n total k c) (some-few w s (take (length (w .queue .pending)) ms))
+
+  -- seats: starts and last bodies replaced
+  pub seated : (ws₁ : List ℕ) (f : Table → Table) (ss bs : List ℕ) → length ws₁ ≡ length ws → decode ws₁ ≡ f (decode ws)
+      → f (table (window-of ws)) ≡ table (with-queue (queue (window-of ws .queue .total) (window-of ws .queue .pending) ss bs) (window-of ws))
+      → length ss ≡ length (window-of ws .queue .starts) → length bs ≡ length (window-of ws .queue .bodies)
+      → Holds (with-queue (queue (window-of ws .queue .total) (window-of ws .queue .pending) ss bs) (window-of ws)) ws₁
+  seated ws₁ f ss bs l d e a b =
+      let s = words-shaped ws (h .long) in
+      lifted ws ws₁ f _ h l d e
+      (record { few = s .few; starts = a ∙ s .starts; bodies = b ∙ s .bodies; keys = s .keys; cooling = s .cooling; racers = s .racers; hedged = s .hedged; planned = s .planned })
