@@ -4,11 +4,10 @@ ghost use mathlib.Core.Path.{_≡_};
 ghost use Prim.Native.Nat.{_<_, _≤_};
 ghost use lib.ListN.{length, getD};
 ghost use Rattle.model.specs.Numbers.{max-clock};
-ghost use Rattle.model.specs.Lists.{keepBy};
 ghost use Rattle.model.specs.Seats.{sooner};
 ghost use Rattle.model.specs.LettingGo.{resets};
 ghost use Rattle.model.specs.Layout.{decode, window-of};
-ghost use Rattle.model.specs.Window.{queue, with-queue};
+ghost use Rattle.model.specs.Window.{with-queue};
 ghost use Rattle.laws.specs.Whole.{Whole, Holds};
 ghost use Rattle.laws.specs.Sound.{InRange};
 ghost use Rattle.laws.specs.Marks.{extract-by};
@@ -71,4 +70,36 @@ fn reset_all(words: &mut [u64], gone: &[u64], n: usize, clock: u64, left: &[u64;
         seats::reset_owner_queue_start(words, owner, gone[a + 5], clock, l);
         i += 1;
     }
+}
+
+// `resets`, over what went.
+pub fn reset_gone(words: &mut [u64], gone: &[u64], n: usize, clock: u64)
+    requires { ⌜ Whole (now words) × (Ranged (window-of (now words)) × ((length (now gone) ≡ 2304) × ((n ≤ 256) × ((clock ≤ max-clock) × Went (InRange max-clock) (releases-of n (now gone)))))) ⌝ }
+    ensures { λ _. ⌜ Holds (with-queue (resets clock (releases-of n (now (gone .entry))) (window-of (now (words .entry)) .queue)) (window-of (now (words .entry)))) (now (words .exit)) ⌝ }
+{
+    let count = state_queue::pending_count(words);
+    let left = oldest_left(words, count);
+    reset_all(words, gone, n, clock, &left);
+}
+
+// ---- marked records out
+
+// `extract-by`: the records whose mark is not 0 go. Answers how many.
+pub fn take_marked(words: &mut [u64], gone: &mut [u64], marks: &[u64]) -> usize
+    requires { ⌜ Whole (now words) × ((length (now gone) ≡ 2304) × (length (now marks) ≡ 256)) ⌝ }
+    ensures { λ r. ⌜
+        (r ≤ 256)
+        × (Holds (extract-by (now (marks .entry)) (window-of (now (words .entry))) .window) (now (words .exit)))
+        × (releases-of r (now (gone .exit)) ≡ extract-by (now (marks .entry)) (window-of (now (words .entry))) .gone)
+        ⌝ }
+{
+    let count = state_queue::pending_count(words);
+    let n = report_words::gather(words, count, marks, gone);
+    let total = state::get_total(words);
+    let frontier = state::get_frontier(words);
+    let t = report_words::totals_after(gone, n, total, frontier);
+    let left = count - n;
+    state_queue::keep_entries(words, marks, left as u64, t.total);
+    state::set_frontier(words, t.frontier);
+    n
 }
