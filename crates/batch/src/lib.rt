@@ -10,6 +10,7 @@ ghost use Rattle.model.specs.Layout.{decode, window-of};
 ghost use Rattle.model.specs.Window.{with-queue};
 ghost use Rattle.laws.specs.Whole.{Whole, Holds};
 ghost use Rattle.laws.specs.Sound.{InRange};
+ghost use Rattle.laws.specs.Batches.{batch};
 ghost use Rattle.laws.specs.Marks.{extract-by};
 ghost use Rattle.laws.specs.Pending.{Ranged};
 ghost use Rattle.records.specs.Places.{stored};
@@ -101,5 +102,19 @@ pub fn take_marked(words: &mut [u64], gone: &mut [u64], marks: &[u64]) -> usize
     let left = count - n;
     state_queue::keep_entries(words, marks, left as u64, t.total);
     state::set_frontier(words, t.frontier);
+    n
+}
+
+// `batch` of `extract-by`: what is marked goes, then each resets its owner's start.
+pub fn let_go(words: &mut [u64], gone: &mut [u64], marks: &[u64], clock: u64) -> usize
+    requires { ⌜ Whole (now words) × (Ranged (window-of (now words)) × ((length (now gone) ≡ 2304) × ((length (now marks) ≡ 256) × (clock ≤ max-clock)))) ⌝ }
+    ensures { λ r. ⌜
+        (r ≤ 256)
+        × (Holds (batch clock (extract-by (now (marks .entry)) (window-of (now (words .entry)))) .window) (now (words .exit)))
+        × (releases-of r (now (gone .exit)) ≡ extract-by (now (marks .entry)) (window-of (now (words .entry))) .gone)
+        ⌝ }
+{
+    let n = take_marked(words, gone, marks);
+    reset_gone(words, gone, n, clock);
     n
 }
