@@ -30,7 +30,13 @@ fn let_out(words: &mut [u64], at: usize, e: Entry, reason: u64, clock: u64)
 }
 
 // `remove-pending`
-pub fn remove_pending(words: &mut [u64], gone: &mut [u64], h: Hash, reason: u64, clock: u64) -> usize
+pub fn remove_pending(
+    words: &mut [u64],
+    gone: &mut [u64],
+    h: Hash,
+    reason: u64,
+    clock: u64,
+) -> usize
     requires { ⌜ Whole (now words) × (Sound clock (window-of (now words)) × (length (now gone) ≡ 2304)) ⌝ }
     ensures { λ r. ⌜
         (r ≤ 1)
@@ -80,7 +86,13 @@ fn lower_to(words: &mut [u64], named: Height)
 }
 
 // `requeue-for-retry`
-pub fn requeue_for_retry(words: &mut [u64], gone: &mut [u64], h: Hash, named: Height, clock: u64) -> usize
+pub fn requeue_for_retry(
+    words: &mut [u64],
+    gone: &mut [u64],
+    h: Hash,
+    named: Height,
+    clock: u64,
+) -> usize
     requires { ⌜ Whole (now words) × (Sound clock (window-of (now words)) × (length (now gone) ≡ 2304)) ⌝ }
     ensures { λ r. ⌜
         (r ≤ 1)
