@@ -1,6 +1,6 @@
 -- What a step of the look leaves and answers, and what such steps need of a sound window. Assumes nothing.
 use mathlib.Core.Path.{_≡_, refl, sym, ap, subst, _∙_}
-use mathlib.Core.Bool.{Bool, true, false}
+use mathlib.Core.Bool.{Bool, true, false, cond}
 use mathlib.Core.List.{List}
 use Prim.Native.Nat.{ℕ, _-_, _≤_}
 use native.Mathlib.Omega.{arith}
@@ -12,13 +12,16 @@ use Rattle.model.specs.Records.{lowest}
 use Rattle.model.specs.Pace.{effective-stall-timeout, wait-widened}
 use Rattle.model.specs.Cooling.{key-of, mark-peer-unresponsive}
 use Rattle.model.specs.Layout.{settings-ok, window-of}
-use Rattle.model.specs.Window.{Window, with-stall, with-pace, with-cold, with-observation}
-use Rattle.model.specs.Races.{Hedge, is-racing}
-use Rattle.model.specs.Observation.{Look, Blame, blame, Seen, Decision, blocks, stalled-since, stall-at, advance-stall, timeout-by, advance-pending-timeout, hedge-says, timeout-seen, stall-seen, busy-seen}
+use Rattle.model.specs.Window.{Window, with-stall, with-pace, with-cold, with-stuck, with-observation}
+use Rattle.model.specs.Races.{Hedge, is-racing, advance-cold-front}
+use Rattle.model.specs.Observation.{Look, Blame, blame, Seen, Decision, blocks, stalled-since, stall-at, advance-stall, timeout-by, advance-pending-timeout, hedge-says, timeout-seen, stall-seen, busy-seen, advance-apply-side-stuck, evict-says, idle-seen, observe-at, observe-blocked}
+use Rattle.model.specs.Perform.{says, decision-values}
+use Rattle.model.specs.Says.{blocked-says}
 use Rattle.model.specs.declared.Entry.{Entry}
 use Rattle.model.specs.declared.Front.the-variants.{Nothing, At}
 use Rattle.model.specs.declared.Settings.{Settings}
 use Rattle.model.specs.declared.Height.{Height}
+use Rattle.model.specs.declared.Height.the-variants.{Unknown, Known}
 use Rattle.model.specs.declared.Sought.{Sought}
 use Rattle.model.specs.declared.Source.{Source}
 use Rattle.model.specs.declared.Source.the-variants.{Missing, From}
@@ -34,7 +37,7 @@ use Rattle.laws.specs.Every.{hold}
 use Rattle.laws.specs.Sound.{Sound, SoundStall, SoundStuck}
 use Rattle.laws.specs.Whole.{Holds}
 use Rattle.states.specs.Fits.{stall-fits, stuck-fits}
-use Rattle.watch.specs.Answers.{blocked-of, timeout-answer}
+use Rattle.watch.specs.Answers.{blocked-of, blocked-told, timeout-answer}
 
 -- what is handed in with a look
 abbrev pub look : Height → Sought → Bool → ℕ → Height → Look
@@ -150,3 +153,42 @@ pub late-sees : {b : Blame} {ws ws′ : List ℕ} {s r : Source} {hedge a : Bloc
 late-sees {b} {ws} {ws′} {r = r} c h first m second e q =
     let t = subst (λ (v : Window). Blames (advance-pending-timeout c v) ws′ r) (first .left .is) second in
     rw (sym (first .told) ∙ m) (timeout-sees h t e q)
+
+-- ---- the whole look
+
+pub idle-sees : {ws ws′ : List ℕ} {a : Blocked} (l : Look) (next c : ℕ) (w : Window) → Holds (with-cold (advance-cold-front next c w .cold) w) ws
+    → Sees (stall-seen (advance-stall next (l .staged) (l .highest) c (window-of ws) .blamed) (advance-stall next (l .staged) (l .highest) c (window-of ws) .window) (advance-cold-front next c w .asks) c) ws′ a
+    → Sees (idle-seen l next c w) ws′ a
+unfolding idle-seen
+idle-sees {ws} {ws′} {a} l next c w h k =
+    subst (λ (v : Window). Sees (stall-seen (advance-stall next (l .staged) (l .highest) c v .blamed) (advance-stall next (l .staged) (l .highest) c v .window) (advance-cold-front next c w .asks) c) ws′ a) (h .is) k
+
+module _ (l : Look) (c : ℕ) (w : Window) {ws′ : List ℕ} {a : Blocked} where
+  pub unplaced-sees : l .next ≡ Unknown → Sees (observe-at Unknown l c w) ws′ a → Sees (observe-blocked l c w) ws′ a
+  unfolding observe-blocked
+  unplaced-sees e k = subst (λ (n : Height). Sees (observe-at n l c w) ws′ a) (sym e) k
+
+  module _ (next : ℕ) {ws : List ℕ} (e : l .next ≡ Known next)
+      (h : Holds (with-stuck (advance-apply-side-stuck next (l .frontier) (l .busy) c w .stuck) w) ws) where
+    pub busy-sees : l .busy ≡ true → a ≡ blocked-of (evict-says next (advance-apply-side-stuck next (l .frontier) (l .busy) c w .evicted))
+        → ((d : Decision) → Holds (busy-seen d (window-of ws) .window) ws′) → Sees (observe-blocked l c w) ws′ a
+    unfolding observe-blocked busy-seen
+    busy-sees q t k =
+        let s = advance-apply-side-stuck next (l .frontier) (l .busy) c w in
+        let d = evict-says next (s .evicted) in
+        let v = with-stuck (s .stuck) w in
+        let x : Sees (busy-seen d v) ws′ a = record { left = subst (λ (u : Window). Holds (busy-seen d u .window) ws′) (h .is) (k d); told = t } in
+        subst (λ (n : Height). Sees (observe-at n l c w) ws′ a) (sym e) (subst (λ (b : Bool). Sees (cond b (busy-seen d v) (idle-seen l next c v)) ws′ a) (sym q) x)
+
+    pub quiet-sees : l .busy ≡ false → Sees (idle-seen l next c (window-of ws)) ws′ a → Sees (observe-blocked l c w) ws′ a
+    unfolding observe-blocked
+    quiet-sees q k =
+        let s = advance-apply-side-stuck next (l .frontier) (l .busy) c w in
+        let d = evict-says next (s .evicted) in
+        let v = with-stuck (s .stuck) w in
+        let x = subst (λ (u : Window). Sees (idle-seen l next c u) ws′ a) (h .is) k in
+        subst (λ (n : Height). Sees (observe-at n l c w) ws′ a) (sym e) (subst (λ (b : Bool). Sees (cond b (busy-seen d v) (idle-seen l next c v)) ws′ a) (sym q) x)
+
+-- what is seen, in the words of the public promise
+pub seen-says : {s : Seen} {ws : List ℕ} {a : Blocked} → Sees s ws a → Holds (s .window) ws × (blocked-says a ≡ says 0 (decision-values (s .decision)))
+seen-says {s} k = (k .left, ap blocked-says (k .told) ∙ blocked-told (s .decision))

@@ -1,8 +1,8 @@
 // 01, module 10: `observe_blocked` and its steps, in words that hold a window. Contracts as in `state`; `Sound` is what the arithmetic asks. The
 // last clock is not set here.
 ghost use mathlib.Core.Path.{_≡_};
-ghost use mathlib.Core.Bool.{_&&_};
-ghost use Prim.Native.Nat.{_<_, _≤_};
+ghost use mathlib.Core.Bool.{Bool, _&&_};
+ghost use Prim.Native.Nat.{ℕ, _<_, _≤_};
 ghost use Rattle.model.specs.Numbers.{max-clock, max-height, max-seat};
 ghost use Rattle.model.specs.Layout.{window-of};
 ghost use Rattle.model.specs.Window.{with-stuck, with-stall, with-pace, with-observation};
@@ -11,11 +11,16 @@ ghost use Rattle.model.specs.Time.{active, owner-download-expired};
 ghost use Rattle.model.specs.Cooling.{key-of, mark-peer-unresponsive};
 ghost use Rattle.model.specs.Races.{Hedge};
 ghost use Rattle.model.specs.Observation.{Decision, blame, advance-apply-side-stuck, evict-says, stall-at, advance-stall, still-owned, timeout-by};
-ghost use Rattle.model.specs.Observation.{advance-pending-timeout, hedge-says, timeout-seen, stall-seen, busy-seen, observe-at};
+ghost use Rattle.model.specs.Observation.{advance-pending-timeout, hedge-says, timeout-seen, stall-seen, busy-seen, idle-seen, observe-at, observe-blocked};
+ghost use Rattle.model.specs.Perform.{says, decision-values};
+ghost use Rattle.model.specs.Says.{blocked-says};
+ghost use Rattle.laws.specs.LooksKept.{LowHeight};
 ghost use Rattle.laws.specs.Sound.{Sound};
 ghost use Rattle.laws.specs.Whole.{Whole, Holds};
+ghost use Rattle.cold_front.specs.Cold.{asked};
 ghost use Rattle.watch.specs.Answers.{blocked-of};
 ghost use Rattle.observation.specs.Steps.{look, Blames, Sees};
+use cold_front::Ask;
 use model::Blocked;
 use model::ColdFront;
 use model::Entry;
@@ -204,17 +209,30 @@ fn after_cold_front(
     Blocked::BlameStaller(owner)
 }
 
-// `observe-at` without a next height.
-fn observe_unplaced(
-    words: &mut [u64],
-    frontier: Sought,
-    busy: bool,
-    staged: u64,
-    highest: Height,
-    clock: u64,
-) -> Blocked
+// The hedge of a cold front as an answer.
+fn hedge_answer(hedge: Ask) -> Blocked
+    ensures { λ r. ⌜ r ≡ blocked-of (hedge-says (asked hedge)) ⌝ }
+{
+    let Ask::HedgeFront(owner, h) = hedge else {
+        return Blocked::NoDecision;
+    };
+    Blocked::HedgeColdFront(owner, h)
+}
+
+// `idle-seen`: cold front, then stall, then pending timeout.
+fn observe_idle(words: &mut [u64], next: u64, staged: u64, highest: Height, clock: u64) -> Blocked
     requires { ⌜ Whole (now words) × Sound clock (window-of (now words)) ⌝ }
-    ensures { λ r. ⌜ Sees (observe-at Height.Unknown (look Height.Unknown frontier busy staged highest) clock (window-of (now (words .entry)))) (now (words .exit)) r ⌝ }
+    ensures { λ r. ⌜ ((n : Height) (f : Sought) (b : Bool) → Sees (idle-seen (look n f b staged highest) next clock (window-of (now (words .entry)))) (now (words .exit)) r) ⌝ }
+{
+    let asked = cold_front::advance_cold_front(words, next, clock);
+    let hedge = hedge_answer(asked);
+    after_cold_front(words, next, staged, highest, hedge, clock)
+}
+
+// `observe-at` without a next height: stuck frontier, cold front and stall are passed by.
+fn observe_unplaced(words: &mut [u64], busy: bool, clock: u64) -> Blocked
+    requires { ⌜ Whole (now words) × Sound clock (window-of (now words)) ⌝ }
+    ensures { λ r. ⌜ ((n : Height) (f : Sought) (s : ℕ) (g : Height) → Sees (observe-at Height.Unknown (look n f busy s g) clock (window-of (now (words .entry)))) (now (words .exit)) r) ⌝ }
 {
     if busy {
         clear_watch(words);
@@ -222,4 +240,28 @@ fn observe_unplaced(
     }
     let late = advance_pending_timeout(words, clock);
     watch::timeout_answer(late, Blocked::NoDecision)
+}
+
+// `observe-blocked`: stuck frontier; busy; then what is left of the look.
+pub fn observe_blocked(
+    words: &mut [u64],
+    next: Height,
+    frontier: Sought,
+    busy: bool,
+    staged: u64,
+    highest: Height,
+    clock: u64,
+) -> Blocked
+    requires { ⌜ Whole (now words) × Sound clock (window-of (now words)) × LowHeight next ⌝ }
+    ensures { λ r. ⌜ Holds (observe-blocked (look next frontier busy staged highest) clock (window-of (now (words .entry))) .window) (now (words .exit)) × (blocked-says r ≡ says 0 (decision-values (observe-blocked (look next frontier busy staged highest) clock (window-of (now (words .entry))) .decision))) ⌝ }
+{
+    let Height::Known(height) = next else {
+        return observe_unplaced(words, busy, clock);
+    };
+    let evicted = advance_apply_side_stuck(words, height, frontier, busy, clock);
+    if busy {
+        clear_watch(words);
+        return evicted;
+    }
+    observe_idle(words, height, staged, highest, clock)
 }

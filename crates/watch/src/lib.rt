@@ -29,10 +29,10 @@ pub struct Stepped {
 }
 
 // Whether a number and a hash are the same as others: owner and front of an episode, height and hash of a frontier.
-fn same_both(n: u64, g: Hash, m: u64, h: Hash) -> bool
-    ensures { λ r. ⌜ r ≡ (eqb n m && same g h) ⌝ }
+pub fn same_both(a: u64, b: u64, g: Hash, h: Hash) -> bool
+    ensures { λ r. ⌜ r ≡ (eqb a b && same g h) ⌝ }
 {
-    if n != m {
+    if a != b {
         return false;
     }
     hash::equal(g, h)
@@ -57,7 +57,7 @@ fn stuck_still(s: Stuck, height: u64, h: Hash, busy: bool, clock: u64) -> Stuck
     let Stuck::StuckAt(n, x, since) = s else {
         return stuck_anew(height, h, busy, clock);
     };
-    if same_both(n, x, height, h) {
+    if same_both(n, height, x, h) {
         return Stuck::StuckAt(n, x, since);
     }
     stuck_anew(height, h, busy, clock)
@@ -147,7 +147,7 @@ pub fn stalled_since(s: Stall, e: Entry, clock: u64) -> u64
         return clock;
     };
     let h = e.hash;
-    if same_both(owner, front, e.owner, h) {
+    if same_both(owner, e.owner, front, h) {
         return since;
     }
     clock

@@ -15,7 +15,7 @@ same-length c = search needs
 
 returns : tie.Need-returns
 unfolding busy-seen
-returns c = rw (c .before .before .before .before .if1 .taken) (record { left = c .before .before .clear-watch .ensures none; told = refl })
+returns c = λ n f s g. rw (c .before .before .before .before .if1 .taken) (record { left = c .before .before .clear-watch .ensures none; told = refl })
 
 advance-pending-timeout-requires : tie.Need-advance-pending-timeout-requires
 advance-pending-timeout-requires c κs = search needs
@@ -27,7 +27,7 @@ same-length-2 : tie.Need-same-length-2
 same-length-2 c = search needs
 
 returns-2 : tie.Need-returns-2
-returns-2 c = rw (c .before .before .before .before .before .if1 .left) (timeout-sees no-hedge (c .before .before .before .advance-pending-timeout .ensures) refl (c .timeout-answer .ensures))
+returns-2 c = λ n f s g. rw (c .before .before .before .before .before .if1 .left) (timeout-sees no-hedge (c .before .before .before .advance-pending-timeout .ensures) refl (c .timeout-answer .ensures))
 
 pub observe-unplaced-spec : {M : Type 1} → statement M
 observe-unplaced-spec =
