@@ -11,7 +11,7 @@ ghost use Rattle.model.specs.Time.{active, owner-download-expired};
 ghost use Rattle.model.specs.Cooling.{key-of, mark-peer-unresponsive};
 ghost use Rattle.model.specs.Races.{Hedge};
 ghost use Rattle.model.specs.Observation.{Decision, blame, advance-apply-side-stuck, evict-says, stall-at, advance-stall, still-owned, timeout-by};
-ghost use Rattle.model.specs.Observation.{advance-pending-timeout, hedge-says, timeout-seen, stall-seen, busy-seen, idle-seen, observe-at, observe-blocked};
+ghost use Rattle.model.specs.Observation.{advance-pending-timeout, hedge-says, stall-seen, busy-seen, idle-seen, observe-at, observe-blocked};
 ghost use Rattle.model.specs.Perform.{says, decision-values};
 ghost use Rattle.model.specs.Says.{blocked-says};
 ghost use Rattle.laws.specs.LooksKept.{LowHeight};
@@ -145,7 +145,8 @@ fn spend_armed(words: &mut [u64], owner: u64, h: Hash, clock: u64) -> Source
     if still_late(words, owner, h, clock) {
         return blame_late(words, owner, clock);
     }
-    state::set_observation(words, Observation::Unarmed);
+    let spent = Observation::Unarmed;
+    state::set_observation(words, spent);
     Source::Missing
 }
 

@@ -1,7 +1,6 @@
 -- The decisions and the stuck step as the code answers them. Assumes nothing.
 use mathlib.Core.Path.{_≡_, refl, sym, _∙_}
 use mathlib.Core.Bool.{Bool, true, false}
-use mathlib.Core.List.{List}
 use Prim.Native.Nat.{ℕ, _*_}
 use Rattle.model.specs.Observation.{Decision, none, blame-staller, blame-timeout, evict, hedges, StuckStep, stuck-step, keeps, evict-says, stuck-still, evicted-by, advance-apply-side-stuck}
 use Rattle.model.specs.Window.{Window}

@@ -1,7 +1,5 @@
 -- `watch::evicted_by` meets its contract. Assumes nothing.
-use mathlib.Core.Path.{ap, sym, _∙_}
 use borrow.Author.Tests.{lt-ltb, le-ltb}
-use Rattle.watch.specs.Answers.{stepped}
 use borrow.Author.Needs.{needs}
 use Rattle.watch.proofs.evicted_by.Statement.{statement}
 use Rattle.watch.proofs.evicted_by.Tie as tie
