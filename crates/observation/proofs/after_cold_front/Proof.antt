@@ -2,7 +2,8 @@
 use mathlib.Core.Path.{refl, sym, _∙_}
 use Rattle.model.specs.Layout.{window-of}
 use Rattle.laws.specs.LooksKept.{stall-steady}
-use Rattle.observation.specs.Steps.{sound-in, late-sees}
+use Rattle.look_steps.specs.Steps.{sound-in}
+use Rattle.observation.specs.Look.{late-sees}
 use borrow.Author.Needs.{needs}
 use Rattle.observation.proofs.after_cold_front.Statement.{statement}
 use Rattle.observation.proofs.after_cold_front.Tie as tie

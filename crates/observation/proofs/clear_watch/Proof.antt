@@ -5,7 +5,8 @@ use Rattle.model.specs.Races.{is-racing}
 use Rattle.model.specs.Window.{Window, with-cold, with-observation}
 use Rattle.model.specs.declared.ColdFront.the-variants.{Idle}
 use Rattle.model.specs.declared.Observation.the-variants.{Unarmed}
-use Rattle.observation.specs.Steps.{and-next, busy-racing, busy-idle}
+use Rattle.look_steps.specs.Steps.{and-next}
+use Rattle.observation.specs.Look.{busy-racing, busy-idle}
 use borrow.Author.Needs.{needs}
 use Rattle.observation.proofs.clear_watch.Statement.{statement}
 use Rattle.observation.proofs.clear_watch.Tie as tie

@@ -5,7 +5,8 @@ use Rattle.model.specs.Observation.{advance-apply-side-stuck}
 use Rattle.model.specs.declared.Height.{Height}
 use Rattle.laws.specs.LooksKept.{LowHeight, stuck-sound}
 use Rattle.laws.specs.Parts.{sound-stuck}
-use Rattle.observation.specs.Steps.{look, sound-in, unplaced-sees, busy-sees, quiet-sees, seen-says}
+use Rattle.look_steps.specs.Steps.{sound-in}
+use Rattle.observation.specs.Look.{look, unplaced-sees, busy-sees, quiet-sees, seen-says}
 use borrow.Author.Needs.{needs}
 use Rattle.observation.proofs.observe_blocked.Statement.{statement}
 use Rattle.observation.proofs.observe_blocked.Tie as tie

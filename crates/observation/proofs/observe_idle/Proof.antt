@@ -6,7 +6,8 @@ use Rattle.model.specs.Observation.{hedge-says}
 use Rattle.watch.specs.Answers.{blocked-of}
 use Rattle.laws.specs.LooksKept.{cold-sound}
 use Rattle.laws.specs.Parts.{sound-cold}
-use Rattle.observation.specs.Steps.{look, sound-in, idle-sees}
+use Rattle.look_steps.specs.Steps.{sound-in}
+use Rattle.observation.specs.Look.{look, idle-sees}
 use borrow.Author.Needs.{needs}
 use Rattle.observation.proofs.observe_idle.Statement.{statement}
 use Rattle.observation.proofs.observe_idle.Tie as tie

@@ -2,7 +2,7 @@
 use mathlib.Core.Path.{refl}
 use Rattle.model.specs.Observation.{none, busy-seen}
 use Rattle.model.specs.Races.{no-hedge}
-use Rattle.observation.specs.Steps.{timeout-sees}
+use Rattle.observation.specs.Look.{timeout-sees}
 use borrow.Author.Needs.{needs}
 use Rattle.observation.proofs.observe_unplaced.Statement.{statement}
 use Rattle.observation.proofs.observe_unplaced.Tie as tie

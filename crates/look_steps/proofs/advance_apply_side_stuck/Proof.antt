@@ -1,4 +1,4 @@
--- `observation::advance_apply_side_stuck` meets its contract. Assumes nothing.
+-- `look_steps::advance_apply_side_stuck` meets its contract. Assumes nothing.
 use mathlib.Core.Path.{sym, ap, subst}
 use Rattle.model.specs.Layout.{window-of}
 use Rattle.model.specs.Observation.{advance-apply-side-stuck}
@@ -9,10 +9,10 @@ use Rattle.laws.specs.LooksKept.{stuck-sound}
 use Rattle.laws.specs.Whole.{Holds}
 use Rattle.states.specs.Fits.{stuck-fits}
 use Rattle.watch.specs.declared.Stepped.{Stepped}
-use Rattle.observation.specs.Steps.{received-le, stuck-writes}
+use Rattle.look_steps.specs.Steps.{received-le, stuck-writes}
 use borrow.Author.Needs.{needs}
-use Rattle.observation.proofs.advance_apply_side_stuck.Statement.{statement}
-use Rattle.observation.proofs.advance_apply_side_stuck.Tie as tie
+use Rattle.look_steps.proofs.advance_apply_side_stuck.Statement.{statement}
+use Rattle.look_steps.proofs.advance_apply_side_stuck.Tie as tie
 
 get-stuck-requires : tie.Need-get-stuck-requires
 get-stuck-requires c κs = search needs

@@ -1,12 +1,12 @@
--- `observation::blame_late` meets its contract. Assumes nothing.
+-- `look_steps::blame_late` meets its contract. Assumes nothing.
 use mathlib.Core.Path.{refl}
 use native.Mathlib.Omega.{arith}
 use Rattle.model.specs.Cooling.{mark-peer-unresponsive}
 use Rattle.model.specs.Layout.{window-of}
-use Rattle.observation.specs.Steps.{and-next, key-le, key-on}
+use Rattle.look_steps.specs.Steps.{and-next, key-le, key-on}
 use borrow.Author.Needs.{needs}
-use Rattle.observation.proofs.blame_late.Statement.{statement}
-use Rattle.observation.proofs.blame_late.Tie as tie
+use Rattle.look_steps.proofs.blame_late.Statement.{statement}
+use Rattle.look_steps.proofs.blame_late.Tie as tie
 
 set-observation-requires : tie.Need-set-observation-requires
 set-observation-requires c κs = search needs

@@ -1,4 +1,4 @@
--- `observation::stall_at` meets its contract. Assumes nothing.
+-- `look_steps::stall_at` meets its contract. Assumes nothing.
 use mathlib.Core.Path.{sym, ap, subst, _∙_}
 use native.Mathlib.Omega.{arith}
 use lib.Dec.{ltb}
@@ -15,10 +15,10 @@ use Rattle.laws.specs.Every.{most-le}
 use Rattle.laws.specs.LooksKept.{since-le}
 use Rattle.laws.specs.Sound.{SoundStall}
 use Rattle.laws.specs.Whole.{Holds}
-use Rattle.observation.specs.Steps.{key-le, stall-goes, stall-fires}
+use Rattle.look_steps.specs.Steps.{key-le, stall-goes, stall-fires}
 use borrow.Author.Needs.{needs}
-use Rattle.observation.proofs.stall_at.Statement.{statement}
-use Rattle.observation.proofs.stall_at.Tie as tie
+use Rattle.look_steps.proofs.stall_at.Statement.{statement}
+use Rattle.look_steps.proofs.stall_at.Tie as tie
 
 get-settings-requires : tie.Need-get-settings-requires
 get-settings-requires c κs = search needs

@@ -1,4 +1,4 @@
--- `observation::still_late` meets its contract. Assumes nothing.
+-- `look_steps::still_late` meets its contract. Assumes nothing.
 use mathlib.Core.Path.{sym, ap, subst, _∙_}
 use native.Mathlib.Omega.{arith}
 use borrow.Author.Tests.{eq-eqb, ne-eqb}
@@ -9,8 +9,8 @@ use Rattle.records.specs.Places.{Finds, here-found, free-found}
 use Rattle.laws.specs.Whole.{sound-rises}
 use Rattle.expiry.specs.Late.{spacing-le}
 use borrow.Author.Needs.{needs}
-use Rattle.observation.proofs.still_late.Statement.{statement}
-use Rattle.observation.proofs.still_late.Tie as tie
+use Rattle.look_steps.proofs.still_late.Statement.{statement}
+use Rattle.look_steps.proofs.still_late.Tie as tie
 
 find-requires : tie.Need-find-requires
 find-requires c κs = search needs

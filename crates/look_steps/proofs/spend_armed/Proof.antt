@@ -1,8 +1,8 @@
--- `observation::spend_armed` meets its contract. Assumes nothing.
+-- `look_steps::spend_armed` meets its contract. Assumes nothing.
 use mathlib.Core.Path.{refl, sym, _∙_}
 use borrow.Author.Needs.{needs}
-use Rattle.observation.proofs.spend_armed.Statement.{statement}
-use Rattle.observation.proofs.spend_armed.Tie as tie
+use Rattle.look_steps.proofs.spend_armed.Statement.{statement}
+use Rattle.look_steps.proofs.spend_armed.Tie as tie
 
 still-late-requires : tie.Need-still-late-requires
 still-late-requires c κs = search needs

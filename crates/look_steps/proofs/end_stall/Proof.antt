@@ -1,12 +1,12 @@
--- `observation::end_stall` meets its contract. Assumes nothing.
+-- `look_steps::end_stall` meets its contract. Assumes nothing.
 use mathlib.Core.Path.{refl}
 use Rattle.model.specs.Cooling.{mark-peer-unresponsive}
 use Rattle.model.specs.Layout.{window-of}
 use Rattle.model.specs.Window.{with-pace}
-use Rattle.observation.specs.Steps.{and-next, key-on}
+use Rattle.look_steps.specs.Steps.{and-next, key-on}
 use borrow.Author.Needs.{needs}
-use Rattle.observation.proofs.end_stall.Statement.{statement}
-use Rattle.observation.proofs.end_stall.Tie as tie
+use Rattle.look_steps.proofs.end_stall.Statement.{statement}
+use Rattle.look_steps.proofs.end_stall.Tie as tie
 
 set-stall-requires : tie.Need-set-stall-requires
 set-stall-requires c κs = search needs

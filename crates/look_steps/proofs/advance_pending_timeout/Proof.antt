@@ -1,12 +1,12 @@
--- `observation::advance_pending_timeout` meets its contract. Assumes nothing.
+-- `look_steps::advance_pending_timeout` meets its contract. Assumes nothing.
 use mathlib.Core.Path.{sym, subst, _∙_}
 use Rattle.model.specs.Layout.{window-of}
 use Rattle.model.specs.declared.Observation.{Observation}
 use Rattle.laws.specs.Sound.{SoundObservation}
-use Rattle.observation.specs.Steps.{timeout-is}
+use Rattle.look_steps.specs.Steps.{timeout-is}
 use borrow.Author.Needs.{needs}
-use Rattle.observation.proofs.advance_pending_timeout.Statement.{statement}
-use Rattle.observation.proofs.advance_pending_timeout.Tie as tie
+use Rattle.look_steps.proofs.advance_pending_timeout.Statement.{statement}
+use Rattle.look_steps.proofs.advance_pending_timeout.Tie as tie
 
 get-observation-requires : tie.Need-get-observation-requires
 get-observation-requires c κs = search needs

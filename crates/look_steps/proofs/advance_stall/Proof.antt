@@ -1,12 +1,12 @@
--- `observation::advance_stall` meets its contract. Assumes nothing.
+-- `look_steps::advance_stall` meets its contract. Assumes nothing.
 use mathlib.Core.Path.{sym, subst, _∙_}
 use Rattle.model.specs.Layout.{window-of}
 use Rattle.model.specs.declared.Front.{Front}
 use Rattle.laws.specs.LooksKept.{FrontIn, lowest-in}
-use Rattle.observation.specs.Steps.{stall-none, stall-free, stall-held}
+use Rattle.look_steps.specs.Steps.{stall-none, stall-free, stall-held}
 use borrow.Author.Needs.{needs}
-use Rattle.observation.proofs.advance_stall.Statement.{statement}
-use Rattle.observation.proofs.advance_stall.Tie as tie
+use Rattle.look_steps.proofs.advance_stall.Statement.{statement}
+use Rattle.look_steps.proofs.advance_stall.Tie as tie
 
 lowest-requires : tie.Need-lowest-requires
 lowest-requires c κs = search needs

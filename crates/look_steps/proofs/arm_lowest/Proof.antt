@@ -1,4 +1,4 @@
--- `observation::arm_lowest` meets its contract. Assumes nothing.
+-- `look_steps::arm_lowest` meets its contract. Assumes nothing.
 use mathlib.Core.Path.{refl, ap, subst, _∙_}
 use Rattle.model.specs.Layout.{window-of}
 use Rattle.model.specs.Observation.{armed-by}
@@ -6,8 +6,8 @@ use Rattle.model.specs.Window.{with-observation}
 use Rattle.model.specs.declared.Observation.{Observation}
 use Rattle.laws.specs.Whole.{Holds}
 use borrow.Author.Needs.{needs}
-use Rattle.observation.proofs.arm_lowest.Statement.{statement}
-use Rattle.observation.proofs.arm_lowest.Tie as tie
+use Rattle.look_steps.proofs.arm_lowest.Statement.{statement}
+use Rattle.look_steps.proofs.arm_lowest.Tie as tie
 
 lowest-expired-requires : tie.Need-lowest-expired-requires
 lowest-expired-requires c κs = search needs
