@@ -46,7 +46,7 @@ use Rattle.laws.specs.RacesKept.{unresponsive-steady}
 
 -- ---- a front is one of the entries
 
-abbrev FrontIn : ℕ → Front → Type 0
+abbrev pub FrontIn : ℕ → Front → Type 0
 FrontIn c Nothing = Unit {0}
 FrontIn c (At e) = InRange c e
 
@@ -55,12 +55,12 @@ module _ (c : ℕ) where
   lower-in e Nothing h k = h
   lower-in e (At x) h k = elim (both (leb (e .height) (x .height))) [ inl q ↦ rw q h | inr q ↦ rw q k ]
 
-  lowest-in : (l : List Entry) → Each (InRange c) l → FrontIn c (lowest l)
+  pub lowest-in : (l : List Entry) → Each (InRange c) l → FrontIn c (lowest l)
   unfolding lowest
   lowest-in [] a = tt
   lowest-in (e ∷ l) a = lower-in e (lowest l) (a .0) (lowest-in l (a .1))
 
-  at-height-in : (n : ℕ) (l : List Entry) → Each (InRange c) l → FrontIn c (at-height n l)
+  pub at-height-in : (n : ℕ) (l : List Entry) → Each (InRange c) l → FrontIn c (at-height n l)
   unfolding at-height
   at-height-in n [] a = tt
   at-height-in n (e ∷ l) a = elim (both (eqb (e .height) n)) [ inl q ↦ rw q (a .0) | inr q ↦ rw q (at-height-in n l (a .1)) ]
@@ -85,7 +85,7 @@ module _ (c : ℕ) where
   evicted-sound Moving h bound g = tt
   evicted-sound (StuckAt n x since) h bound g = elim (both (ltb (c - since) bound)) [ inl q ↦ rw q g | inr q ↦ rw q (g .0, omega arith) ]
 
-  stuck-sound : (height : ℕ) (s : Sought) (busy : Bool) (w : Window) → height ≤ max-height → SoundStuck c (w .watch .stuck)
+  pub stuck-sound : (height : ℕ) (s : Sought) (busy : Bool) (w : Window) → height ≤ max-height → SoundStuck c (w .watch .stuck)
       → SoundStuck c (advance-apply-side-stuck height s busy c w .stuck)
   stuck-sound height NoHash busy w k g = tt
   stuck-sound height (Exactly h) true w k g = evicted-sound (stuck-still (w .watch .stuck) height h true c) h _ (still-sound (w .watch .stuck) height h true k g)
@@ -102,7 +102,7 @@ module _ (c : ℕ) where
   cold-at-sound Nothing x initial h g = tt
   cold-at-sound (At e) x initial h g = wait-sound x e initial h g
 
-  cold-sound : (next : ℕ) (w : Window) → Sound c w → SoundCold c (advance-cold-front next c w .cold)
+  pub cold-sound : (next : ℕ) (w : Window) → Sound c w → SoundCold c (advance-cold-front next c w .cold)
   unfolding advance-cold-front
   cold-sound next w g = elim (both (is-racing (w .races .cold))) [
     | inl q ↦ rw q (g .races .cold)
@@ -115,7 +115,7 @@ module _ (c : ℕ) where
 
   -- ---- the stall
 
-  since-le : (s : Stall) (e : Entry) → SoundStall c s → stalled-since s e c ≤ c
+  pub since-le : (s : Stall) (e : Entry) → SoundStall c s → stalled-since s e c ≤ c
   since-le Calm e g = omega arith
   since-le (Episode owner front since) e g = elim (both (eqb owner (e .owner) && same front (e .hash))) [ inl q ↦ rw q (g .1) | inr q ↦ rw q (omega arith) ]
 
@@ -138,7 +138,7 @@ module _ (c : ℕ) where
     | inr q ↦ rw q (record { sound = sound-stall g Calm tt; same = refl })
   ]
 
-  stall-steady : (next staged : ℕ) (highest : Height) (w : Window) → Sound c w → Steady c w (advance-stall next staged highest c w .window)
+  pub stall-steady : (next staged : ℕ) (highest : Height) (w : Window) → Sound c w → Steady c w (advance-stall next staged highest c w .window)
   unfolding advance-stall
   stall-steady next staged highest w g = stall-by-steady (lowest (w .queue .pending)) next staged highest w (lowest-in (w .queue .pending) (g .queue .each)) g
 
