@@ -1,13 +1,11 @@
--- Steps on words one after another, and what a sound window grants them. Assumes nothing.
-use mathlib.Core.Path.{_≡_, refl, sym, ap, subst, _∙_}
+-- What a sound window grants to the steps of a delivery. Assumes nothing.
+use mathlib.Core.Path.{_≡_, _∙_}
 use mathlib.Core.Logic.{inl, inr}
 use mathlib.Core.Bool.{Bool, true, false, cond, not, _&&_, _||_}
-use mathlib.Core.List.{List}
 use Prim.Native.Nat.{ℕ, suc, _≤_}
 use native.Mathlib.Omega.{arith}
 use lib.Dec.{eqb, leb, ltb}
 use Rattle.model.specs.Hash.{same}
-use Rattle.model.specs.Layout.{window-of}
 use Rattle.model.specs.Window.{Window}
 use Rattle.model.specs.Calls.{unless-stalled, unless-front, is-young, engages}
 use Rattle.model.specs.declared.Hash.{Hash}
@@ -21,16 +19,7 @@ use Rattle.model.specs.declared.ColdFront.the-variants.{Idle, Waiting, Racing}
 use Rattle.model.specs.Numbers.{max-clock}
 use Rattle.laws.specs.Numbers.{both}
 use Rattle.laws.specs.Sound.{SoundStall, SoundCold}
-use Rattle.laws.specs.Whole.{Whole, Holds, holds-whole}
 use Rattle.states.specs.Fits.{stall-fits, cold-fits}
-
--- THE ROW: a step on the window that the words hold after another
-pub then : {v : Window} {ws₁ ws₂ : List ℕ} (f : Window → Window) → Holds v ws₁ → Holds (f (window-of ws₁)) ws₂ → Holds (f v) ws₂
-then {ws₂ = ws₂} f h k = subst (λ (u : Window). Holds (f u) ws₂) (h .is) k
-
--- a step by a value that the code worked out
-pub by-value : {A : Type 0} {x y : A} {ws : List ℕ} (f : A → Window) → x ≡ y → Holds (f x) ws → Holds (f y) ws
-by-value {ws = ws} f e k = subst (λ a. Holds (f a) ws) e k
 
 -- ---- times that can be written
 

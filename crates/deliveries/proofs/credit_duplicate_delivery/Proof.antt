@@ -3,7 +3,7 @@ use mathlib.Core.Path.{ap, _∙_}
 use Rattle.model.specs.Calls.{unless-observed, credit-duplicate-delivery}
 use Rattle.model.specs.Layout.{window-of}
 use Rattle.model.specs.Window.{with-observation}
-use Rattle.deliveries.specs.Steps.{by-value}
+use Rattle.rules.specs.Rows.{by-value}
 use borrow.Author.Needs.{needs}
 use Rattle.deliveries.proofs.credit_duplicate_delivery.Statement.{statement}
 use Rattle.deliveries.proofs.credit_duplicate_delivery.Tie as tie

@@ -4,7 +4,7 @@ use Prim.Native.Nat.{ℕ}
 use Rattle.model.specs.Calls.{next-mean}
 use Rattle.model.specs.Layout.{window-of}
 use Rattle.model.specs.Window.{with-mean}
-use Rattle.deliveries.specs.Steps.{by-value}
+use Rattle.rules.specs.Rows.{by-value}
 use borrow.Author.Needs.{needs}
 use Rattle.deliveries.proofs.move_mean.Statement.{statement}
 use Rattle.deliveries.proofs.move_mean.Tie as tie

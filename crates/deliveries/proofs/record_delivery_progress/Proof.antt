@@ -7,7 +7,8 @@ use Rattle.model.specs.Layout.{window-of}
 use Rattle.model.specs.Window.{with-stall, with-pace}
 use Rattle.model.specs.declared.Pace.{Pace}
 use Rattle.states.specs.Fits.{stall-fits}
-use Rattle.deliveries.specs.Steps.{then, by-value, stall-writes, stalled-writes}
+use Rattle.rules.specs.Rows.{then, by-value}
+use Rattle.deliveries.specs.Steps.{stall-writes, stalled-writes}
 use borrow.Author.Needs.{needs}
 use Rattle.deliveries.proofs.record_delivery_progress.Statement.{statement}
 use Rattle.deliveries.proofs.record_delivery_progress.Tie as tie

@@ -4,7 +4,8 @@ use Rattle.model.specs.Calls.{unless-front, credit-duplicate-delivery}
 use Rattle.model.specs.Layout.{window-of}
 use Rattle.model.specs.Window.{with-cold}
 use Rattle.states.specs.Fits.{cold-fits}
-use Rattle.deliveries.specs.Steps.{then, by-value, front-writes}
+use Rattle.rules.specs.Rows.{then, by-value}
+use Rattle.deliveries.specs.Steps.{front-writes}
 use borrow.Author.Needs.{needs}
 use Rattle.deliveries.proofs.rejected_from.Statement.{statement}
 use Rattle.deliveries.proofs.rejected_from.Tie as tie

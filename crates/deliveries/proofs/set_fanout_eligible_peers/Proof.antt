@@ -6,7 +6,8 @@ use lib.Dec.{leb, ltb}
 use Rattle.model.specs.Calls.{is-young, engages, set-fanout-eligible-peers}
 use Rattle.model.specs.Layout.{window-of}
 use Rattle.model.specs.Window.{with-fanout, without-probe}
-use Rattle.deliveries.specs.Steps.{then, by-value, engaged-so}
+use Rattle.rules.specs.Rows.{then, by-value}
+use Rattle.deliveries.specs.Steps.{engaged-so}
 use borrow.Author.Needs.{needs}
 use Rattle.deliveries.proofs.set_fanout_eligible_peers.Statement.{statement}
 use Rattle.deliveries.proofs.set_fanout_eligible_peers.Tie as tie
