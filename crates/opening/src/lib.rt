@@ -1,0 +1,38 @@
+// 01, module 9: the opening, on any 4,096 words.
+ghost use mathlib.Core.Path.{_≡_};
+ghost use lib.ListN.{length};
+ghost use Rattle.model.specs.Calls.{opened};
+ghost use Rattle.model.specs.Layout.{decode};
+ghost use Rattle.laws.specs.Tables.{with-keys};
+ghost use Rattle.laws.specs.Whole.{Holds};
+ghost use Rattle.opening.specs.Blank.{blank-table};
+use model::Settings;
+
+// `blank-table`
+fn clear(words: &mut [u64])
+    requires { ⌜ length (now words) ≡ 4096 ⌝ }
+    ensures { λ _. ⌜ decode (now (words .exit)) ≡ blank-table ⌝ }
+{
+    column::clear_from(words, 0);
+}
+
+fn set_keys(words: &mut [u64], keys: &[u64])
+    requires { ⌜ (length (now words) ≡ 4096) × (length (now keys) ≡ 256) ⌝ }
+    ensures { λ _. ⌜ decode (now (words .exit)) ≡ with-keys (now (keys .entry)) (decode (now (words .entry))) ⌝ }
+{
+    column::copy_over(&mut words[2816..3072], keys);
+}
+
+// `opened`: format 1, the clock, mean 262,144, frontier 1; settings, keys and the first stall wait; all else is 0.
+pub fn open(words: &mut [u64], clock: u64, b: Settings, keys: &[u64])
+    requires { ⌜ (length (now words) ≡ 4096) × (length (now keys) ≡ 256) ⌝ }
+    ensures { λ _. ⌜ Holds (opened clock b (now (keys .entry))) (now (words .exit)) ⌝ }
+{
+    let counts = [1, 0, clock, 0, 0, 0, 262144, 1];
+    let p = pace::pace_opened(b);
+    clear(words);
+    set_keys(words, keys);
+    layout::store_at(words, 0, &counts);
+    layout::store_settings(words, b);
+    layout::store_pace(words, p);
+}
