@@ -1,6 +1,7 @@
 -- Words that hold a window and nothing else, and the one way in which a step on words is a step on windows. No clock has a part in it: a call sets
 -- the last clock as its last step. Assumes nothing.
-use mathlib.Core.Path.{_≡_, refl, sym, ap, _∙_}
+use mathlib.Core.Path.{_≡_, refl, sym, ap, subst, _∙_}
+use mathlib.Core.Bool.{true}
 use mathlib.Core.List.{List, [], _∷_, _++_}
 use Prim.Native.Nat.{ℕ, zero, suc, _+_, _-_, _*_, _≤_, _<_}
 use native.Mathlib.Omega.{arith}
@@ -9,7 +10,7 @@ use lib.Seq.{take-at, drop-at, drop-drop, length-take-le}
 use Rattle.model.specs.Lists.{pad}
 use Rattle.model.specs.Hash.{hashes-in, hashes-words}
 use Rattle.model.specs.Pace.{pace}
-use Rattle.model.specs.Layout.{Table, blank, decode, flat, encode, window-of, read, table, word, words-at, live, settings-of, settings-words, stall-words, stuck-words, cold-words, hedged-words, observation-words, probe-words, planned-words, counts-words, small-words, head-words}
+use Rattle.model.specs.Layout.{Table, is-window, rising, blank, decode, flat, encode, window-of, read, table, word, words-at, live, settings-of, settings-words, stall-words, stuck-words, cold-words, hedged-words, observation-words, probe-words, planned-words, counts-words, small-words, head-words}
 use Rattle.model.specs.Window.{Window, window, queue, races, watch}
 use Rattle.model.specs.declared.Hash.{Hash}
 use Rattle.model.specs.declared.Entry.{Entry}
@@ -25,6 +26,8 @@ use Rattle.model.specs.declared.Observation.{Observation}
 use Rattle.model.specs.declared.Observation.the-variants.{Unarmed, Armed, Swept}
 use Rattle.laws.specs.Tables.{Sized, sized-decode, flat-decode, words-are, decode-flat, length-flat}
 use Rattle.laws.specs.Sound.{Sound, SoundProbe}
+use Rattle.laws.specs.Valid.{rising-is}
+use Rattle.laws.specs.Words.{words-encode, words-sound}
 use Rattle.laws.specs.Heads.{seg, word-is, length-hashes, length-padded, hashes-said, source-back, flag-back, stall-back, stuck-back, cold-back, observation-back, probe-back}
 
 -- ---- the lengths that every window of words has
@@ -206,3 +209,12 @@ pub lifted : (ws ws′ : List ℕ) (f : Table → Table) (w′ : Window) → Who
     → Shaped w′ → Holds w′ ws′
 unfolding encode
 lifted ws ws′ f w′ h n e l s = holds-words w′ ws′ s (words-are ws′ (table w′) (n ∙ h .long) (e ∙ ap f (sym (h .kept)) ∙ l))
+
+-- ---- words that count as a window
+
+pub window-whole : (ws : List ℕ) → length ws ≡ 4096 → is-window ws ≡ true → Whole ws × Sound (window-of ws .clock) (window-of ws)
+window-whole ws n v = (subst Whole (words-encode ws n v) (holds-encode (window-of ws) (words-shaped ws n) .whole), words-sound ws n v)
+
+-- the entries of a sound window rise, as a search among them asks
+pub sound-rises : (c : ℕ) (w : Window) → Sound c w → rising (w .queue .pending) ≡ true
+sound-rises c w g = rising-is 0 (w .queue .pending) (g .queue .rising)

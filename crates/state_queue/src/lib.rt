@@ -10,7 +10,7 @@ ghost use Rattle.model.specs.Pace.{was-front};
 ghost use Rattle.model.specs.LettingGo.{flagged};
 ghost use Rattle.model.specs.Calls.{started, body-noted};
 ghost use Rattle.model.specs.Layout.{window-of, blank};
-ghost use Rattle.model.specs.Window.{queue, with-queue};
+ghost use Rattle.model.specs.Window.{queue, with-queue, with-high};
 ghost use Rattle.laws.specs.Whole.{Whole, Holds};
 ghost use Rattle.records.specs.Places.{Finds, stored};
 ghost use Rattle.state_queue.specs.Steps.{entries-put};
@@ -159,4 +159,14 @@ pub fn keep_seats(words: &mut [u64], flags: &[u64])
     ensures { λ _. ⌜ Holds (with-queue (queue (window-of (now (words .entry)) .queue .total) (window-of (now (words .entry)) .queue .pending) (keep-seats (flagged (now (flags .entry))) 0 (window-of (now (words .entry)) .queue .starts)) (keep-seats (flagged (now (flags .entry))) 0 (window-of (now (words .entry)) .queue .bodies))) (window-of (now (words .entry)))) (now (words .exit)) ⌝ }
 {
     seats::keep_seats(words, flags);
+}
+
+// ---- the high waters
+
+pub fn set_high(words: &mut [u64], blocks: u64, bytes: u64)
+    requires { ⌜ Whole (now words) ⌝ }
+    ensures { λ _. ⌜ Holds (with-high (record { blocks = blocks; bytes = bytes }) (window-of (now (words .entry)))) (now (words .exit)) ⌝ }
+{
+    let l = [blocks, bytes];
+    layout::store_at(words, 4, &l);
 }
