@@ -22,7 +22,7 @@ use Rattle.laws.specs.Tables.{with-starts, with-bodies}
 use Rattle.laws.specs.Queues.{resets-pending, resets-total}
 use Rattle.laws.specs.Marks.{gone-by}
 use Rattle.laws.specs.Whole.{Shape, Shaped, Whole, Holds, lifted, words-shaped}
-use Rattle.seats.specs.Resets.{seat-reset}
+use Rattle.laws.specs.Tables.{seat-reset}
 use Rattle.report_words.specs.Report.{release-at, releases-of, resets-more}
 
 -- ---- a table of each seat's oldest request

@@ -7,7 +7,7 @@ ghost use Rattle.model.specs.Races.{Hedge};
 ghost use Rattle.model.specs.Observation.{Decision, advance-stall, hedge-says, stall-seen, busy-seen, idle-seen, observe-at, observe-blocked};
 ghost use Rattle.model.specs.Perform.{says, decision-values};
 ghost use Rattle.model.specs.Says.{blocked-says};
-ghost use Rattle.laws.specs.LooksKept.{LowHeight};
+ghost use Rattle.laws.specs.Fits.{LowHeight};
 ghost use Rattle.laws.specs.Sound.{Sound};
 ghost use Rattle.laws.specs.Whole.{Whole, Holds};
 ghost use Rattle.cold_front.specs.Cold.{asked};

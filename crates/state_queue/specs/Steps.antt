@@ -25,7 +25,7 @@ use Rattle.laws.specs.Whole.{Shaped, Whole, Holds, lifted, words-shaped}
 use Rattle.laws.specs.Parts.{length-keep}
 use Rattle.records.specs.Places.{Finds, here-found, free-found}
 use Rattle.records.specs.declared.Place.the-variants.{Here, Free}
-use Rattle.seats.specs.Resets.{seat-reset, seats-kept}
+use Rattle.laws.specs.Tables.{seat-reset, kept-seats}
 
 -- ---- the entries
 
@@ -135,9 +135,9 @@ module _ (w : Window) where
       (set (w .queue .starts) owner (start-reset now (suc removed) o (getD (w .queue .starts) owner 0)))
       (set (w .queue .bodies) owner (body-reset o (getD (w .queue .bodies) owner 0)))) w)) e
 
-  pub kept-seats-in : (fs : List ℕ) → seats-kept fs (table w)
+  pub kept-seats-in : (fs : List ℕ) → kept-seats fs (table w)
       ≡ table (with-queue (queue (w .queue .total) (w .queue .pending) (keep-seats (flagged fs) 0 (w .queue .starts)) (keep-seats (flagged fs) 0 (w .queue .bodies))) w)
-  unfolding seats-kept with-starts with-bodies table head-words counts-words small-words
+  unfolding kept-seats with-starts with-bodies table head-words counts-words small-words
   kept-seats-in fs = refl
 
   pub started-in : (owner now : ℕ) → with-starts (set (table w .starts) owner (start-noted now (getD (table w .starts) owner 0))) (table w) ≡ table (with-queue (started owner now (w .queue)) w)

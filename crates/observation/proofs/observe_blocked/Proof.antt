@@ -3,7 +3,8 @@ use mathlib.Core.Path.{subst}
 use Rattle.model.specs.Layout.{window-of}
 use Rattle.model.specs.Observation.{advance-apply-side-stuck}
 use Rattle.model.specs.declared.Height.{Height}
-use Rattle.laws.specs.LooksKept.{LowHeight, stuck-sound}
+use Rattle.laws.specs.Fits.{LowHeight}
+use Rattle.laws.specs.LooksKept.{stuck-sound}
 use Rattle.laws.specs.Parts.{sound-stuck}
 use Rattle.look_steps.specs.Steps.{sound-in}
 use Rattle.observation.specs.Look.{look, unplaced-sees, busy-sees, quiet-sees, seen-says}

@@ -4,7 +4,7 @@ use lib.ListN.{length-set}
 use Rattle.model.specs.Layout.{window-of, table}
 use Rattle.model.specs.Seats.{reset-owner-queue-start}
 use Rattle.records.specs.Places.{stored}
-use Rattle.seats.specs.Resets.{seat-reset}
+use Rattle.laws.specs.Tables.{seat-reset}
 use Rattle.state_queue.specs.Steps.{seated, reset-in}
 use borrow.Author.Needs.{needs}
 use Rattle.state_queue.proofs.reset_owner_queue_start.Statement.{statement}
