@@ -1,4 +1,4 @@
--- `report_words::gather` meets its contract: at the loop's head what was gathered, and what is left to gather from i on, is all that goes.
+-- `report_words::gather` meets its contract: at the loop's head what was gathered, and what is left to gather from i on, is all that goes. Assumes nothing.
 use mathlib.Core.Path.{_≡_, refl, sym, ap, _∙_}
 use mathlib.Core.List.{List, [], _∷_, _++_, append-assoc, append-nil}
 use Prim.Native.Nat.{ℕ, suc, _+_, _-_, _≤_, _<_}
