@@ -70,3 +70,10 @@ module _ (owner : ℕ) (h : Hash) (is-staged : Bool) (bytes n : ℕ) (w : Window
   unfolding mark-owned-fetch
   fetch-done height now ws f r e s k =
       (subst (λ (x : Fetching). fetch-says r ≡ says 0 (fetch-values x)) (sym e) s, subst (λ (x : Fetching). Holds (fetched x owner h height now w) ws) (sym e) k)
+
+-- a test on what was read is one on the window
+pub less-so : {a b c d : ℕ} → a ≡ b → c ≡ d → a < c → b < d
+less-so {a} {b} {c} {d} p q h = subst (λ (x : ℕ). x < d) p (subst (λ (y : ℕ). a < y) q h)
+
+pub le-so : {a b c d : ℕ} → a ≡ b → c ≡ d → a ≤ c → b ≤ d
+le-so {a} {b} {c} {d} p q h = subst (λ (x : ℕ). x ≤ d) p (subst (λ (y : ℕ). a ≤ y) q h)
