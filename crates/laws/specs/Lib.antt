@@ -19,3 +19,6 @@ pub mod Whole
 pub mod Groups
 pub mod Valid
 pub mod Words
+pub mod Batches
+pub mod Marks
+pub mod Pending

@@ -1,0 +1,19 @@
+use borrow.Author.Tests.{eq-eqb, ne-eqb}
+use borrow.Author.Needs.{needs}
+use Rattle.cold_front.proofs.same_both.Statement.{statement}
+use Rattle.cold_front.proofs.same_both.Tie as tie
+
+-- src/lib.rt:49:9
+returns : tie.Need-returns
+returns c = rw (ne-eqb _ _ (c .if1 .taken))
+
+-- src/lib.rt:51:5
+equal-requires : tie.Need-equal-requires
+equal-requires c κs = search needs
+
+-- src/lib.rt:45:1
+returns-2 : tie.Need-returns-2
+returns-2 c = rw (eq-eqb _ _ (c .before .if1 .left)) (c .equal .ensures)
+
+pub same-both-spec : {M : Type 1} → statement M
+same-both-spec = tie.close (tie.spec returns equal-requires returns-2)
