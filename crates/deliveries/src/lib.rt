@@ -101,7 +101,13 @@ pub fn set_fanout_eligible_peers(words: &mut [u64], n: u64, clock: u64)
     let least = b.min_peers_for_fanout;
     let initial = b.stall_timeout_initial;
     let engaged = rules::engages(least, initial, f.engaged, p, n, clock);
-    state::set_fanout(words, Fanout { eligible: n, engaged });
+    state::set_fanout(
+        words,
+        Fanout {
+            eligible: n,
+            engaged,
+        },
+    );
     if engaged {
         state_races::clear_probe(words);
     }

@@ -52,7 +52,7 @@ later : (a b c d t : ℕ) (hs ts : List ℕ) (i : ℕ) → ask-at hs ts i ≡ as
 later a b c d t hs ts i =
     let l = a ∷ b ∷ c ∷ d ∷ hs in
     let e : (k : ℕ) → getD hs (4 * i + k) 0 ≡ getD l (4 * suc i + k) 0 =
-        λ k. let q : suc (suc (suc (suc (4 * i + k)))) ≡ 4 * suc i + k = omega arith in ap (λ (n : ℕ). getD l n 0) q in
+    λ k. let q : suc (suc (suc (suc (4 * i + k)))) ≡ 4 * suc i + k = omega arith in ap (λ (n : ℕ). getD l n 0) q in
     let z : getD hs (4 * i) 0 ≡ getD l (4 * suc i) 0 = let q : suc (suc (suc (suc (4 * i)))) ≡ 4 * suc i = omega arith in ap (λ (n : ℕ). getD l n 0) q in
     λ j. record { hash = hash (z j) (e 1 j) (e 2 j) (e 3 j); height = getD ts i 0 }
 

@@ -125,7 +125,7 @@ module _ (asks : List Ask) (owner now : ℕ) (w : Window) where
   putting-step a rest v v′ m e p =
       let mean : v .mean ≡ w .mean = ap (λ (u : Window). u .mean) (p .only) in
       let q : v′ .queue ≡ put (new-entry (a .hash) owner now (a .height) (w .mean)) (v .queue) =
-          ap (λ (u : Window). u .queue) e ∙ ap (λ (k : ℕ). put (new-entry (a .hash) owner now (a .height) k) (v .queue)) mean in
+      ap (λ (u : Window). u .queue) e ∙ ap (λ (k : ℕ). put (new-entry (a .hash) owner now (a .height) k) (v .queue)) mean in
       record {
         only = e ∙ (λ i. with-queue (put (new-entry (a .hash) owner now (a .height) (v .mean)) (v .queue)) (p .only i)) ∙ ap (λ (x : Queue). with-queue x w) (sym (ap (λ (u : Window). u .queue) e));
         all = ap (puts rest owner now (w .mean)) q ∙ p .all;
@@ -144,7 +144,6 @@ drop-all [] zero h = refl
 drop-all [] (suc i) h = refl
 drop-all (a ∷ l) zero h = absurd (not-suc-le-zero h)
 drop-all (a ∷ l) (suc i) h = drop-all l i (le-of-suc-le-suc h)
-
 
 module _ (hs ts : List ℕ) (owner now : ℕ) (w : Window) (i : ℕ) (h : Hash) where
   abbrev left : ℕ → List Ask

@@ -55,5 +55,5 @@ pub requested-row : (asks : List Ask) (owner next now : ℕ) (w : Window)
 unfolding mark-requested
 requested-row asks owner next now w =
     let same : (eqb (length (w .queue .pending)) 0 && not (eqb (length asks) 0)) ≡ (is-empty (w .queue .pending) && not (is-empty asks)) =
-        λ i. sym (empty-length (w .queue .pending)) i && not (sym (empty-length asks) i) in
+    λ i. sym (empty-length (w .queue .pending)) i && not (sym (empty-length asks) i) in
     row asks owner next now (forgotten (length asks) w) ∙ ap (λ (b : Bool). told asks owner next now (cond b (with-attempted Missing w) w)) same

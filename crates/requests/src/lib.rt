@@ -82,14 +82,7 @@ fn hash_in(hashes: &[u64], k: usize) -> Hash
 }
 
 // `puts`: one entry after the other.
-fn put_all(
-    words: &mut [u64],
-    hashes: &[u64],
-    heights: &[u32],
-    n: usize,
-    owner: u64,
-    clock: u64,
-)
+fn put_all(words: &mut [u64], hashes: &[u64], heights: &[u32], n: usize, owner: u64, clock: u64)
     requires { ⌜ Whole (now words) × ((window-of (now words) .mean ≤ max-estimate) × (Ready (asks-in (now hashes) (now heights)) (window-of (now words) .queue) × (n ≡ length (asks-in (now hashes) (now heights))))) ⌝ }
     ensures { λ _. ⌜ Holds (filled (asks-in (now (hashes .entry)) (now (heights .entry))) owner clock (window-of (now (words .entry)))) (now (words .exit)) ⌝ }
 {
