@@ -76,4 +76,6 @@ fn main() {
     }
     let free: Vec<usize> = (0..4096).filter(|&i| never[i]).collect();
     println!("words that no change of them broke: {free:?} (3604 is the head's word 20, eligible peers: any number)");
+    assert_eq!(free, [3604], "every other word can break a window");
+    println!("{rounds} passed, 0 failed");
 }
