@@ -1,16 +1,15 @@
 -- One part of a window's table replaced is the table of the window with that part replaced. Assumes nothing.
 use mathlib.Core.Path.{_≡_, refl, sym, ap, _∙_}
-use mathlib.Core.Bool.{Bool}
 use mathlib.Core.List.{List, [], _∷_, _++_, append-assoc}
-use Prim.Native.Nat.{ℕ, zero, suc, _+_, _-_, _*_, _≤_, _<_}
+use Prim.Native.Nat.{ℕ, _+_, _-_, _≤_, _<_}
 use native.Mathlib.Omega.{arith}
 use native.Mathlib.Nat.{zero-add}
-use lib.ListN.{length, getD, take, drop, replicate}
+use lib.ListN.{length, take, drop, replicate}
 use lib.Seq.{drop-at, take-append-add, drop-append-add}
 use Rattle.column.proofs.Pads.{removed-pad, inserted-pad, kept-pad}
-use Rattle.model.specs.Lists.{pad, removeAt, insertAt, inserted, keepBy, keptBy}
-use Rattle.model.specs.Layout.{Table, blank, table, flag-word, source-word, settings-words, stall-words, stuck-words, cold-words, hedged-words, observation-words, probe-words, planned-words, counts-words, small-words, head-words}
-use Rattle.model.specs.Window.{Window, Queue, HighWater, queue, with-clock, with-mean, with-frontier, with-high, with-queue, with-cooling, with-fanout, with-pace, with-cold, with-hedged, with-preferred, with-probe, with-attempted, with-stall, with-stuck, with-observation}
+use Rattle.model.specs.Lists.{pad, removeAt, insertAt, keepBy}
+use Rattle.model.specs.Layout.{blank, table, flag-word, source-word, settings-words, stall-words, stuck-words, cold-words, hedged-words, observation-words, probe-words, planned-words, counts-words, small-words, head-words}
+use Rattle.model.specs.Window.{Window, HighWater, queue, with-clock, with-mean, with-frontier, with-high, with-queue, with-cooling, with-fanout, with-pace, with-cold, with-hedged, with-preferred, with-probe, with-attempted, with-stall, with-stuck, with-observation}
 use Rattle.model.specs.declared.Hash.{Hash}
 use Rattle.model.specs.declared.Entry.{Entry}
 use Rattle.model.specs.declared.Pace.{Pace}
@@ -21,7 +20,7 @@ use Rattle.model.specs.declared.Stuck.{Stuck}
 use Rattle.model.specs.declared.ColdFront.{ColdFront}
 use Rattle.model.specs.declared.Probe.{Probe}
 use Rattle.model.specs.declared.Observation.{Observation}
-use Rattle.laws.specs.Tables.{with-entries, with-starts, with-bodies, with-keys, with-racers, with-head, with-words, replaced, removed, put-in, kept-rows}
+use Rattle.laws.specs.Tables.{with-entries, with-starts, with-bodies, with-racers, with-head, with-words, replaced, removed, put-in, kept-rows}
 use Rattle.laws.specs.Tables as tables
 use Rattle.laws.specs.Whole.{Shaped, length-stall, length-stuck, length-cold, length-hedged, length-observation, length-probe, length-planned}
 

@@ -3,14 +3,14 @@
 use mathlib.Core.Path.{_≡_, refl, sym, ap, subst, _∙_}
 use mathlib.Core.Bool.{true}
 use mathlib.Core.List.{List, [], _∷_, _++_}
-use Prim.Native.Nat.{ℕ, zero, suc, _+_, _-_, _*_, _≤_, _<_}
+use Prim.Native.Nat.{ℕ, suc, _+_, _-_, _*_, _≤_}
 use native.Mathlib.Omega.{arith}
-use lib.ListN.{length, getD, take, drop, replicate, length-append, length-take, length-drop, length-replicate}
-use lib.Seq.{take-at, drop-at, drop-drop, length-take-le}
+use lib.ListN.{length, getD, take, drop, replicate, length-append, length-take, length-replicate}
+use lib.Seq.{take-at}
 use Rattle.model.specs.Lists.{pad}
 use Rattle.model.specs.Hash.{hashes-in, hashes-words}
 use Rattle.model.specs.Pace.{pace}
-use Rattle.model.specs.Layout.{Table, is-window, rising, blank, decode, flat, encode, window-of, read, table, word, words-at, live, settings-of, settings-words, stall-words, stuck-words, cold-words, hedged-words, observation-words, probe-words, planned-words, counts-words, small-words, head-words}
+use Rattle.model.specs.Layout.{Table, is-window, rising, blank, decode, encode, window-of, read, table, word, words-at, live, settings-of, settings-words, stall-words, stuck-words, cold-words, hedged-words, observation-words, probe-words, planned-words, counts-words, small-words, head-words}
 use Rattle.model.specs.Window.{Window, window, queue, races, watch}
 use Rattle.model.specs.declared.Hash.{Hash}
 use Rattle.model.specs.declared.Entry.{Entry}
@@ -24,11 +24,11 @@ use Rattle.model.specs.declared.Probe.{Probe}
 use Rattle.model.specs.declared.Probe.the-variants.{NoProbe, Probing}
 use Rattle.model.specs.declared.Observation.{Observation}
 use Rattle.model.specs.declared.Observation.the-variants.{Unarmed, Armed, Swept}
-use Rattle.laws.specs.Tables.{Sized, sized-decode, flat-decode, words-are, decode-flat, length-flat}
+use Rattle.laws.specs.Tables.{Sized, sized-decode, words-are, decode-flat, length-flat}
 use Rattle.laws.specs.Sound.{Sound, SoundProbe}
 use Rattle.laws.specs.Valid.{rising-is}
 use Rattle.laws.specs.Words.{words-encode, words-sound}
-use Rattle.laws.specs.Heads.{seg, word-is, length-hashes, length-padded, hashes-said, source-back, flag-back, stall-back, stuck-back, cold-back, observation-back, probe-back}
+use Rattle.laws.specs.Heads.{seg, word-is, length-padded, hashes-said, source-back, flag-back, stall-back, stuck-back, cold-back, observation-back, probe-back}
 
 -- ---- the lengths that every window of words has
 

@@ -2,7 +2,7 @@
 // nothing else (`Whole`), and leaves them so, with that part replaced (`Holds`): so calls compose as steps on windows.
 ghost use mathlib.Core.Path.{_≡_};
 ghost use Prim.Native.Nat.{_<_, _≤_};
-ghost use lib.ListN.{length, getD, set};
+ghost use lib.ListN.{length, getD};
 ghost use Rattle.model.specs.Layout.{window-of, source-word};
 ghost use Rattle.model.specs.Cooling.{key-of};
 ghost use Rattle.model.specs.Time.{active};

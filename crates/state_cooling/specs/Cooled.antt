@@ -1,14 +1,14 @@
 -- The cooling times of the window that the words hold, replaced. Assumes nothing.
-use mathlib.Core.Path.{_≡_, refl, sym, ap, _∙_}
+use mathlib.Core.Path.{_≡_, ap, _∙_}
 use mathlib.Core.Bool.{cond}
 use mathlib.Core.List.{List, map}
-use Prim.Native.Nat.{ℕ, suc, _+_, _≤_}
+use Prim.Native.Nat.{ℕ, suc}
 use native.Mathlib.Omega.{arith}
-use lib.ListN.{length, getD, take, drop, set, length-set, length-map}
+use lib.ListN.{length, getD, take, drop, length-set, length-map}
 use Rattle.column.proofs.Parts.{put, put-long}
 use Rattle.model.specs.Cooling.{cools, cooling-noted, key-of, mark-peer-unresponsive, peer-in-staller-cooldown}
-use Rattle.model.specs.Layout.{Table, decode, read, window-of, table, word, settings-of}
-use Rattle.model.specs.Window.{Window, with-cooling}
+use Rattle.model.specs.Layout.{decode, read, window-of, word, settings-of}
+use Rattle.model.specs.Window.{with-cooling}
 use Rattle.laws.specs.Tables.{decode-cooling, sized-decode}
 use Rattle.laws.specs.Tables as tables
 use Rattle.laws.specs.Groups.{cooling-in}

@@ -1,15 +1,15 @@
 -- The entries of the window that the words hold, and what a step on them and on their seats is to the window. Assumes nothing.
 use mathlib.Core.Path.{_≡_, refl, sym, ap, subst, _∙_}
 use mathlib.Core.Bool.{true, cond}
-use mathlib.Core.List.{List, [], _∷_, _++_}
+use mathlib.Core.List.{List, [], _∷_}
 use Prim.Native.Nat.{ℕ, zero, suc, _+_, _-_, _≤_, _<_, suc-le-suc, zero-le}
 use native.Mathlib.Nat.{not-suc-le-zero, le-of-suc-le-suc}
 use native.Mathlib.Omega.{arith}
-use lib.ListN.{length, getD, set, take, drop, length-set}
+use lib.ListN.{length, getD, set, take}
 use lib.Seq.{getD-take}
 use lib.Dec.{eqb}
 use borrow.Author.Tests.{eqb-true}
-use Rattle.model.specs.Lists.{pad, removeAt, insertAt, keepBy}
+use Rattle.model.specs.Lists.{removeAt, insertAt, keepBy}
 use Rattle.model.specs.Hash.{key, same}
 use Rattle.model.specs.Records.{remove}
 use Rattle.model.specs.Seats.{oldest, reset-owner-queue-start, start-reset, body-reset, start-noted, keep-seats}
@@ -19,10 +19,9 @@ use Rattle.model.specs.Layout.{Table, blank, rising, decode, read, window-of, t
 use Rattle.model.specs.Window.{Window, Queue, queue, with-queue}
 use Rattle.model.specs.declared.Hash.{Hash}
 use Rattle.model.specs.declared.Entry.{Entry}
-use Rattle.laws.specs.Tables.{with-words, with-head, replaced, with-entries, with-starts, with-bodies, removed, put-in, kept-rows}
+use Rattle.laws.specs.Tables.{with-words, with-starts, with-bodies, removed, put-in, kept-rows}
 use Rattle.laws.specs.Groups.{queue-in, removed-in, put-in-in, kept-in}
 use Rattle.laws.specs.Whole.{Shaped, Whole, Holds, lifted, words-shaped}
-use Rattle.laws.specs.Parts.{length-keep}
 use Rattle.records.specs.Places.{Finds, here-found, free-found}
 use Rattle.records.specs.declared.Place.the-variants.{Here, Free}
 use Rattle.laws.specs.Tables.{seat-reset, kept-seats}

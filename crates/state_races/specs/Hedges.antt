@@ -4,13 +4,13 @@ use mathlib.Core.Path.{_≡_, refl, sym, ap, _∙_}
 use mathlib.Core.Bool.{true}
 use mathlib.Core.List.{List, [], _∷_, _++_}
 use Prim.Native.Nat.{ℕ, zero, suc, _+_, _-_, _*_, _≤_, _<_}
-use native.Mathlib.Nat.{zero-add, not-suc-le-zero, le-of-suc-le-suc}
+use native.Mathlib.Nat.{not-suc-le-zero, le-of-suc-le-suc}
 use native.Mathlib.Omega.{arith}
 use lib.ListN.{length, getD, take, drop, replicate, length-append, length-take, length-drop}
 use lib.Seq.{getD-drop, getD-take, length-take-le}
 use Rattle.model.specs.Lists.{pad, all}
 use Rattle.model.specs.Hash.{hash, hashes-in, hashes-words}
-use Rattle.model.specs.Layout.{Table, decode, window-of, read, table, word, words-at, hash-at, is-0, settings-words, stall-words, stuck-words, cold-words, hedged-words, observation-words, probe-words, planned-words, counts-words, small-words, head-words}
+use Rattle.model.specs.Layout.{decode, window-of, read, table, word, words-at, hash-at, is-0, settings-words, stall-words, stuck-words, cold-words, hedged-words, observation-words, probe-words, planned-words, counts-words, small-words, head-words}
 use Rattle.model.specs.Window.{Window, with-probe}
 use Rattle.model.specs.declared.Hash.{Hash}
 use Rattle.model.specs.declared.Probe.{Probe}

@@ -1,7 +1,7 @@
 // Hedged fronts, and the probe with its hashes and racers, in words that hold a window and nothing else. Contracts as in `state`.
 ghost use mathlib.Core.Path.{_≡_};
 ghost use mathlib.Core.List.{_++_, _∷_, []};
-ghost use Prim.Native.Nat.{_<_, _≤_};
+ghost use Prim.Native.Nat.{_<_};
 ghost use lib.ListN.{length, getD, set, take};
 ghost use Rattle.model.specs.Numbers.{present};
 ghost use Rattle.model.specs.Lists.{count};

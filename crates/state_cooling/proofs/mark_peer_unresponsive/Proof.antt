@@ -1,5 +1,5 @@
 -- `state_cooling::mark_peer_unresponsive` meets its contract. Assumes nothing.
-use mathlib.Core.Path.{sym, subst, _∙_}
+use mathlib.Core.Path.{sym, subst}
 use Prim.Native.Nat.{ℕ, _≤_}
 use Rattle.model.specs.Numbers.{max-seat}
 use Rattle.model.specs.Cooling.{key-of}

@@ -2,7 +2,6 @@
 use mathlib.Core.Path.{_∙_}
 use native.Mathlib.Omega.{arith}
 use Rattle.state_queue.specs.Steps.{entry-is, few}
-use borrow.Author.Needs.{needs}
 use Rattle.state_queue.proofs.entry_at.Statement.{statement}
 use Rattle.state_queue.proofs.entry_at.Tie as tie
 

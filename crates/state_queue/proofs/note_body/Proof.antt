@@ -5,7 +5,7 @@ use lib.ListN.{set}
 use Rattle.model.specs.Calls.{body-noted}
 use Rattle.laws.specs.Tables.{with-bodies}
 use lib.ListN.{length-set}
-use Rattle.model.specs.Layout.{window-of, table}
+use Rattle.model.specs.Layout.{window-of}
 use Rattle.state_queue.specs.Steps.{seated, body-in}
 use borrow.Author.Needs.{needs}
 use Rattle.state_queue.proofs.note_body.Statement.{statement}

@@ -5,7 +5,7 @@ use Rattle.model.specs.Calls.{started}
 use Rattle.model.specs.Seats.{start-noted}
 use Rattle.laws.specs.Tables.{with-starts}
 use lib.ListN.{length-set}
-use Rattle.model.specs.Layout.{window-of, table}
+use Rattle.model.specs.Layout.{window-of}
 use Rattle.state_queue.specs.Steps.{seated, started-in}
 use borrow.Author.Needs.{needs}
 use Rattle.state_queue.proofs.note_start.Statement.{statement}

@@ -1,7 +1,6 @@
 -- `state_queue::reset_owner_queue_start` meets its contract. Assumes nothing.
-use mathlib.Core.Path.{refl}
 use lib.ListN.{length-set}
-use Rattle.model.specs.Layout.{window-of, table}
+use Rattle.model.specs.Layout.{window-of}
 use Rattle.model.specs.Seats.{reset-owner-queue-start}
 use Rattle.records.specs.Places.{stored}
 use Rattle.laws.specs.Tables.{seat-reset}

@@ -1,7 +1,6 @@
 -- `state_queue::take_out` meets its contract. Assumes nothing.
 use mathlib.Core.Path.{ap, _∙_}
 use native.Mathlib.Omega.{arith}
-use Prim.Native.Nat.{ℕ}
 use Rattle.model.specs.declared.Entry.{Entry}
 use Rattle.state_queue.specs.Steps.{count-is, total-is, few, taken}
 use borrow.Author.Needs.{needs}

@@ -1,7 +1,5 @@
 -- `state_races::clear_probe` meets its contract. Assumes nothing.
 use mathlib.Core.Path.{refl, subst}
-use mathlib.Core.List.{List}
-use Prim.Native.Nat.{ℕ}
 use native.Mathlib.Omega.{arith}
 use Rattle.model.specs.Lists.{all}
 use Rattle.model.specs.Window.{Window, with-probe, no-seats}
