@@ -87,9 +87,10 @@ fn idle() -> Turn
 fn anew(owner: u64, h: Hash, clock: u64) -> Turn
     ensures { λ r. ⌜ turned r ≡ cold-step (Waiting owner h clock) no-hedge ⌝ }
 {
+    let first = Ask::NoHedge;
     Turn {
         cold: ColdFront::Waiting(owner, h, clock),
-        asks: Ask::NoHedge,
+        asks: first,
     }
 }
 

@@ -218,6 +218,7 @@ pub record Walking (limit first : ℕ) (l : List Entry) (n : ℕ) (places marks 
 -- its result
 pub record Walked (limit first : ℕ) (l : List Entry) (n : ℕ) (places : List ℕ) (height : ℕ) : Type 0 where
   pub few : n ≤ limit
+  pub room : length places ≡ 8
   pub hashes : walk limit first (by-height l) ≡ hashes-at l (take n places)
   pub end : height ≡ expected-after (hashes-at l (take n places)) first
   pub within : (k : ℕ) → k < n → getD places k 0 < length l
@@ -237,7 +238,7 @@ module _ (limit first : ℕ) (l : List Entry) where
 
   module _ (n : ℕ) (places marks : List ℕ) (x : ℕ) (w : Walking limit first l n places marks x) where
     stopped : walk (limit - n) x (by-height (keepBy marks l)) ≡ [] → Walked limit first l n places x
-    stopped q = record { few = w .few; hashes = w .so-far ∙ ap (λ (r : List Hash). hashes-at l (take n places) ++ r) q ∙ append-nil _; end = w .end; within = w .within }
+    stopped q = record { few = w .few; room = w .room; hashes = w .so-far ∙ ap (λ (r : List Hash). hashes-at l (take n places) ++ r) q ∙ append-nil _; end = w .end; within = w .within }
 
     pub walk-gap : (i : ℕ) → lower-in x (drop i marks) (drop i l) ≡ true → Walked limit first l n places x
     walk-gap i q = stopped (below-walk x (limit - n) _ (lower-below x marks l (lower-drop x i marks l q)))

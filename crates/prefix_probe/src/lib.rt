@@ -61,7 +61,7 @@ fn height_at(words: &[u64], i: usize) -> u64
 }
 
 // `walk` of the entries by height: each turn searches those that are left for the one at the height expected.
-fn walk_up(words: &[u64], limit: usize, first: u64) -> Walk
+pub fn walk_up(words: &[u64], limit: usize, first: u64) -> Walk
     requires { ⌜ Whole (now words) × ((limit ≤ 8) × (first ≤ max-height)) ⌝ }
     ensures { λ r. ⌜ Walked limit first (window-of (now (words .entry)) .queue .pending) (r .n) (r .places) (r .end) ⌝ }
 {
