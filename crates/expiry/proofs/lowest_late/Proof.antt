@@ -110,7 +110,7 @@ loop-again c =
     let a = at-loop .before .before .args in
     let l = at-loop .loop in
     let p = late (a .clock) (a .timeout) (decode (a .words .now) .starts) in
-    (omega arith, down p (a .words .now) (a .count) (l .i) (l .i - 1) (omega arith) (omega arith) (omega arith) (l .best) (l .low) (c .before .before .if1 .taken) (sym (c .before .is-late .ensures) ∙ c .if2 .taken) (l .inv .1))
+    (omega arith, down p (a .words .now) (a .count) (l .i) (l .i - 1) (omega arith) (omega arith) (omega arith) (l .best) (l .low) (omega (arith, c .before .before .if1 .taken)) (sym (c .before .is-late .ensures) ∙ c .if2 .taken) (l .inv .1))
 
 loop-less-2 : tie.Need-loop-less-2 Inv-loop μ-loop
 loop-less-2 c = omega arith
