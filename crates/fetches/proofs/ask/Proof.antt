@@ -1,7 +1,6 @@
 -- `fetches::ask` meets its contract. Assumes nothing.
 use mathlib.Core.Path.{_≡_, sym, subst, ap, _∙_}
 use native.Mathlib.Omega.{arith}
-
 use Rattle.model.specs.Calls.{puts}
 use Rattle.model.specs.Layout.{window-of, source-word}
 use Rattle.model.specs.Window.{Window, with-attempted}
