@@ -2,12 +2,14 @@
 use mathlib.Core.Path.{_≡_, refl, ap, _∙_}
 use mathlib.Core.Logic.{_⊎_, inl, inr}
 use mathlib.Core.List.{List, [], _∷_, _++_, append-nil}
-use Prim.Native.Nat.{ℕ}
+use Prim.Native.Nat.{ℕ, suc}
+use native.Mathlib.Omega.{arith}
 use lib.Dec.{eqb}
 use Rattle.model.specs.Hash.{same}
 use Rattle.model.specs.Cooling.{mark-peer-unresponsive}
 use Rattle.model.specs.LettingGo.{extract, seats-kept, retain-peer-assignments}
 use Rattle.model.specs.Races.{hedge-lost, resolve-by, resolve-cold-front-delivery, probe-delivery, record-prefix-probe-delivery}
+use Rattle.model.specs.Calls.{body-noted, credit-duplicate-delivery}
 use Rattle.model.specs.Window.{Window, Step, stay, and-then}
 use Rattle.model.specs.declared.Hash.{Hash}
 use Rattle.model.specs.declared.Release.{Release}
@@ -16,6 +18,9 @@ use Rattle.model.specs.declared.ColdFront.the-variants.{Idle, Waiting, Racing}
 use Rattle.model.specs.declared.Probe.{Probe}
 use Rattle.model.specs.declared.Probe.the-variants.{NoProbe}
 use Rattle.laws.specs.Numbers.{both}
+use Rattle.laws.specs.Sound.{Sound}
+use Rattle.laws.specs.Parts.{bounded-set, sound-queue}
+use Rattle.laws.specs.CallsKept.{duplicate-steady}
 
 -- nothing went, or no probe is left
 abbrev Quiet : Step → Type 0
@@ -51,3 +56,21 @@ module _ (h : Hash) (source now : ℕ) (w : Window) where
         let q : races (resolved .window) ≡ stay (resolved .window) = ap (λ (p : Probe). probe-delivery p h source now (resolved .window)) e in
         (λ i. record { window = q i .window; gone = resolved .gone ++ q i .gone }) ∙ (λ i. record { window = resolved .window; gone = append-nil (resolved .gone) i })
   ]
+
+noted-sound : {c : ℕ} {w : Window} (source : ℕ) → Sound c w → Sound c (body-noted source c w)
+unfolding body-noted
+noted-sound {c} {w} source g =
+    let q = g .queue in
+    sound-queue g _ (record {
+      rising = q .rising;
+      few = q .few;
+      each = q .each;
+      total = q .total;
+      seats = q .seats;
+      starts = q .starts;
+      bodies = bounded-set source (suc c) (omega arith) (q .bodies);
+    }) (record { blocks = g .high .blocks; bytes = g .high .bytes })
+
+-- what a credit does before the races keeps a window sound
+pub begun-sound : {c : ℕ} {w : Window} (h : Hash) (source : ℕ) → Sound c w → Sound c (credit-duplicate-delivery h source (body-noted source c w))
+begun-sound h source g = duplicate-steady h source (noted-sound source g) .sound

@@ -2,7 +2,9 @@
 // in `gone`. The last clock is not set here: the public call does it last.
 ghost use mathlib.Core.Path.{_≡_};
 ghost use lib.ListN.{length};
-ghost use Rattle.model.specs.Calls.{is-owner, reject-delivery};
+ghost use Prim.Native.Nat.{_≤_};
+ghost use Rattle.model.specs.Numbers.{max-seat};
+ghost use Rattle.model.specs.Calls.{body-noted, credit-duplicate-delivery, height-of, is-owner, reject-delivery};
 ghost use Rattle.model.specs.Records.{found};
 ghost use Rattle.model.specs.Queries.{flag};
 ghost use Rattle.model.specs.Perform.{says};
@@ -13,8 +15,32 @@ ghost use Rattle.laws.specs.Whole.{Whole, Holds};
 ghost use Rattle.report_words.specs.Report.{releases-of};
 use model::Front;
 use model::Hash;
+use model::Height;
 use model::Rejected;
 use model::Source;
+
+// ---- deliveries
+
+// `height-of`: an unasked body has no pending height.
+pub fn height_of(front: Front) -> Height
+    ensures { λ r. ⌜ r ≡ height-of front ⌝ }
+{
+    match front {
+        Front::Nothing => Height::Unknown,
+        Front::At(e) => Height::Known(e.height),
+    }
+}
+
+// What `credit-delivery-from` does before the races: the source's last body, and the observation.
+pub fn credit_begun(words: &mut [u64], h: Hash, source: u64, clock: u64)
+    requires { ⌜ Whole (now words) × (Sound clock (window-of (now words)) × (source ≤ max-seat)) ⌝ }
+    ensures { λ _. ⌜ Holds (credit-duplicate-delivery h source (body-noted source clock (window-of (now (words .entry))))) (now (words .exit)) ⌝ }
+{
+    state_queue::note_body(words, source as usize, clock);
+    deliveries::credit_duplicate_delivery(words, h, source);
+}
+
+// ---- rejections
 
 // `is-owner`: a missing source owns nothing.
 fn is_owner(source: Source, front: Front) -> bool
