@@ -1,11 +1,9 @@
 -- `fetches::ask` meets its contract. Assumes nothing.
 use mathlib.Core.Path.{_≡_, sym, subst, ap, _∙_}
 use native.Mathlib.Omega.{arith}
-use Prim.Native.Nat.{_≤_}
 use Rattle.model.specs.Calls.{puts}
 use Rattle.model.specs.Layout.{window-of, source-word}
 use Rattle.model.specs.Window.{Window, with-attempted}
-use Rattle.model.specs.declared.Source.{Source}
 use Rattle.rules.specs.Rows.{then, by-value}
 use Rattle.requests.specs.Puts.{Ready, ready-takes}
 use Rattle.requests.specs.Rows.{forgotten-same, closed, filled, requested-row}
@@ -36,7 +34,9 @@ close-requires c κs = search needs
 set-attempted-requires : tie.Need-set-attempted-requires
 set-attempted-requires c κs =
     let s = c .before .before .before .before .before .before .before .before .before .before .before .before .before .before .before .before in
-    (c .before .before .before .close .ensures .whole, subst (λ (x : Source). source-word x ≤ 256) (sym (c .before .before .before .before .before .before .before .before .before .before .before .before .before .get-attempted .ensures)) (source-writes (window-of (s .args .words .now) .races .attempted) (s .pre .1 .0 .races .attempted)))
+    let kept = source-writes (window-of (s .args .words .now) .races .attempted) (s .pre .1 .0 .races .attempted) in
+    let same = ap source-word (c .before .before .before .before .before .before .before .before .before .before .before .before .before .get-attempted .ensures) in
+    (c .before .before .before .close .ensures .whole, omega arith)
 
 same-length : tie.Need-same-length
 same-length c = search needs
