@@ -2,13 +2,16 @@
 ghost use mathlib.Core.Path.{_≡_};
 ghost use mathlib.Core.Bool.{true, false};
 ghost use mathlib.Core.List.{[]};
-ghost use Rattle.model.specs.Refusals.{changes, queries, at, timeless, checking, nothing, window-refusal, clears-preferred, credits-duplicate, sets-fanout};
-ghost use Rattle.model.specs.Queries.{reads, pending-len, pending-bytes, peer-inflight, active-peers, decay-floor, request-cursor, ewma-block-bytes, asks-request-capacity, asks-contains, asks-count-for, asks-downloading};
+ghost use Rattle.model.specs.Refusals.{changes, queries, at, timeless, checking, nothing, window-refusal, clears-preferred, credits-duplicate, sets-fanout, marks-unresponsive, fetches};
+ghost use Rattle.model.specs.Queries.{reads, pending-len, pending-bytes, pending-high-water, stalling-peer, peer-inflight, active-peers, decay-floor, request-cursor, ewma-block-bytes, asks-request-capacity, asks-contains, asks-count-for, asks-downloading, owner-timeout, asks-hedge-offered, asks-has-expired, asks-cooldown};
 ghost use Rattle.model.specs.Perform.{perform};
-ghost use Rattle.model.specs.Says.{number-says, truth-says, accepted-says};
+ghost use Rattle.model.specs.Says.{number-says, pair-says, perhaps-pair-says, truth-says, accepted-says, fetch-says};
 use model::Accepted;
+use model::Fetch;
 use model::Hash;
 use model::Number;
+use model::Pair;
+use model::PerhapsPair;
 use model::Truth;
 
 // ---- refusals
@@ -192,6 +195,84 @@ pub fn is_downloading(words: &[u64], seat: u64) -> Truth
     Truth::Denied
 }
 
+// How long an owner may take: by the window's own active seats.
+pub fn effective_owner_timeout(words: &[u64]) -> Number
+    ensures { λ r. ⌜ number-says r ≡ perform (queries (reads owner-timeout)) (now (words .entry)) [] .answer ⌝ }
+{
+    let n = admits(words, true);
+    if n != 0 {
+        return Number::Refused(n);
+    }
+    let x = sweep::timeout_of(words);
+    Number::Is(x)
+}
+
+// Whether a hedge of this hash may be offered to a seat.
+pub fn hedge_offered(words: &[u64], seat: u64, h: Hash) -> Truth
+    ensures { λ r. ⌜ truth-says r ≡ perform (queries (asks-hedge-offered seat h)) (now (words .entry)) [] .answer ⌝ }
+{
+    let n = admits(words, seat <= 255);
+    if n != 0 {
+        return Truth::Refused(n);
+    }
+    if cold_front::hedge_offered(words, seat, h) {
+        return Truth::Affirmed;
+    }
+    Truth::Denied
+}
+
+// Whether a seat has blocks that are past its time.
+pub fn peer_has_expired_pending(words: &[u64], seat: u64, clock: u64) -> Truth
+    ensures { λ r. ⌜ truth-says r ≡ perform (queries (asks-has-expired seat clock)) (now (words .entry)) [] .answer ⌝ }
+{
+    let n = admits_at(words, clock, seat <= 255);
+    if n != 0 {
+        return Truth::Refused(n);
+    }
+    if sweep::peer_has_expired_pending(words, seat as usize, clock) {
+        return Truth::Affirmed;
+    }
+    Truth::Denied
+}
+
+// Whether the key of a seat is cooling.
+pub fn peer_in_staller_cooldown(words: &[u64], seat: u64, clock: u64) -> Truth
+    ensures { λ r. ⌜ truth-says r ≡ perform (queries (asks-cooldown seat clock)) (now (words .entry)) [] .answer ⌝ }
+{
+    let n = admits_at(words, clock, seat <= 255);
+    if n != 0 {
+        return Truth::Refused(n);
+    }
+    if state_cooling::in_cooldown(words, seat as usize, clock) {
+        return Truth::Affirmed;
+    }
+    Truth::Denied
+}
+
+// The most that was pending: blocks, and bytes.
+pub fn pending_high_water(words: &[u64]) -> Pair
+    ensures { λ r. ⌜ pair-says r ≡ perform (queries (reads pending-high-water)) (now (words .entry)) [] .answer ⌝ }
+{
+    let n = admits(words, true);
+    if n != 0 {
+        return Pair::Refused(n);
+    }
+    let x = state::get_high_blocks(words);
+    let y = state::get_high_bytes(words);
+    Pair::Both(x, y)
+}
+
+// The key of the stalling seat, and since when.
+pub fn stalling_peer(words: &[u64]) -> PerhapsPair
+    ensures { λ r. ⌜ perhaps-pair-says r ≡ perform (queries (reads stalling-peer)) (now (words .entry)) [] .answer ⌝ }
+{
+    let n = admits(words, true);
+    if n != 0 {
+        return PerhapsPair::Refused(n);
+    }
+    queries::stalling_peer(words)
+}
+
 // ---- calls
 
 pub fn clear_preferred_peer(words: &mut [u64]) -> Accepted
@@ -235,4 +316,52 @@ pub fn credit_duplicate_delivery(words: &mut [u64], h: Hash, source: u64) -> Acc
     }
     deliveries::credit_duplicate_delivery(words, h, source);
     Accepted::Done
+}
+
+pub fn mark_peer_unresponsive(words: &mut [u64], source: u64, clock: u64) -> Accepted
+    ensures { λ r. ⌜
+        (accepted-says r ≡ perform (changes (marks-unresponsive clock source)) (now (words .entry)) [] .answer)
+        × (now (words .exit) ≡ perform (changes (marks-unresponsive clock source)) (now (words .entry)) [] .words)
+        ⌝ }
+{
+    let k = admits_at(words, clock, source <= 255);
+    if k != 0 {
+        return Accepted::Refused(k);
+    }
+    state_cooling::mark_peer_unresponsive(words, source as usize, clock);
+    state::set_clock(words, clock);
+    Accepted::Done
+}
+
+pub fn mark_owned_fetch(
+    words: &mut [u64],
+    owner: u64,
+    h: Hash,
+    height: u32,
+    is_staged: bool,
+    byte_headroom: u64,
+    count_headroom: u64,
+    clock: u64,
+) -> Fetch
+    ensures { λ r. ⌜
+        (fetch-says r ≡ perform (changes (fetches clock owner h height «is_staged» «byte_headroom» «count_headroom»)) (now (words .entry)) [] .answer)
+        × (now (words .exit) ≡ perform (changes (fetches clock owner h height «is_staged» «byte_headroom» «count_headroom»)) (now (words .entry)) [] .words)
+        ⌝ }
+{
+    let k = admits_at(words, clock, owner <= 255);
+    if k != 0 {
+        return Fetch::Refused(k);
+    }
+    let r = fetches::mark_owned_fetch(
+        words,
+        owner,
+        h,
+        height,
+        is_staged,
+        byte_headroom,
+        count_headroom,
+        clock,
+    );
+    state::set_clock(words, clock);
+    r
 }
