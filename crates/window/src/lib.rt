@@ -3,7 +3,7 @@ ghost use mathlib.Core.Path.{_≡_};
 ghost use mathlib.Core.Bool.{true, false};
 ghost use mathlib.Core.List.{[]};
 ghost use Rattle.model.specs.Refusals.{changes, queries, at, timeless, checking, nothing, window-refusal, clears-preferred, credits-duplicate, sets-fanout, marks-unresponsive, fetches};
-ghost use Rattle.model.specs.Queries.{reads, pending-len, pending-bytes, pending-high-water, stalling-peer, peer-inflight, active-peers, decay-floor, request-cursor, ewma-block-bytes, asks-request-capacity, asks-contains, asks-count-for, asks-downloading, owner-timeout, asks-hedge-offered, asks-has-expired, asks-cooldown};
+ghost use Rattle.model.specs.Queries.{reads, pending-len, pending-bytes, asks-expired-capacity, stall-timeout, max-pending-blocks, min-peers-for-fanout, fanout-active, pending-high-water, stalling-peer, peer-inflight, active-peers, decay-floor, request-cursor, ewma-block-bytes, asks-request-capacity, asks-contains, asks-count-for, asks-downloading, owner-timeout, asks-hedge-offered, asks-has-expired, asks-cooldown};
 ghost use Rattle.model.specs.Perform.{perform};
 ghost use Rattle.model.specs.Says.{number-says, pair-says, perhaps-pair-says, truth-says, accepted-says, fetch-says};
 use model::Accepted;
@@ -271,6 +271,69 @@ pub fn stalling_peer(words: &[u64]) -> PerhapsPair
         return PerhapsPair::Refused(n);
     }
     queries::stalling_peer(words)
+}
+
+// The stall wait.
+pub fn stall_timeout(words: &[u64]) -> Number
+    ensures { λ r. ⌜ number-says r ≡ perform (queries (reads stall-timeout)) (now (words .entry)) [] .answer ⌝ }
+{
+    let n = admits(words, true);
+    if n != 0 {
+        return Number::Refused(n);
+    }
+    let p = state::get_pace(words);
+    Number::Is(p.wait)
+}
+
+// The setting of that name.
+pub fn max_pending_blocks(words: &[u64]) -> Number
+    ensures { λ r. ⌜ number-says r ≡ perform (queries (reads max-pending-blocks)) (now (words .entry)) [] .answer ⌝ }
+{
+    let n = admits(words, true);
+    if n != 0 {
+        return Number::Refused(n);
+    }
+    let p = state::get_settings(words);
+    Number::Is(p.max_pending_blocks)
+}
+
+// The setting of that name.
+pub fn min_peers_for_fanout(words: &[u64]) -> Number
+    ensures { λ r. ⌜ number-says r ≡ perform (queries (reads min-peers-for-fanout)) (now (words .entry)) [] .answer ⌝ }
+{
+    let n = admits(words, true);
+    if n != 0 {
+        return Number::Refused(n);
+    }
+    let p = state::get_settings(words);
+    Number::Is(p.min_peers_for_fanout)
+}
+
+// Whether requests fan out.
+pub fn fanout_active(words: &[u64]) -> Truth
+    ensures { λ r. ⌜ truth-says r ≡ perform (queries (reads fanout-active)) (now (words .entry)) [] .answer ⌝ }
+{
+    let n = admits(words, true);
+    if n != 0 {
+        return Truth::Refused(n);
+    }
+    let f = state::get_fanout(words);
+    if f.engaged {
+        return Truth::Affirmed;
+    }
+    Truth::Denied
+}
+
+// The forecast: blocks and bytes that expired owners hold.
+pub fn expired_pending_capacity(words: &[u64], clock: u64) -> Pair
+    ensures { λ r. ⌜ pair-says r ≡ perform (queries (asks-expired-capacity clock)) (now (words .entry)) [] .answer ⌝ }
+{
+    let n = admits_at(words, clock, true);
+    if n != 0 {
+        return Pair::Refused(n);
+    }
+    let f = sweep::expired_pending_capacity(words, clock);
+    Pair::Both(f.blocks, f.bytes)
 }
 
 // ---- calls
