@@ -1,0 +1,3 @@
+pub mod Admits
+pub mod Changes
+pub mod Seated
