@@ -17,6 +17,7 @@ pub fn sequences(window: &mut dyn Window) -> Vec<Sequence> {
         no_plan_in_fanout(),
         plan_at_the_top(),
         staged_at_front(),
+        passed_over_at_the_wait(),
     ];
     all.into_iter().map(run).collect()
 }
@@ -61,6 +62,13 @@ fn staged_at_front() -> Vec<Call> {
         staged_height,
     };
     vec![open(8), request(&[100, 101]), look(Some(100)), Call::StallingPeer, look(Some(101)), Call::StallingPeer]
+}
+
+/// The owner's last body is later than the request, and the entry's age reaches the stall wait.
+fn passed_over_at_the_wait() -> Vec<Call> {
+    let body = Call::CreditDeliveryFrom { clock: 7, hash: hash(99), source: 3, pending_height: None };
+    let sweep = |age: u64| Call::ExpirePending { clock: 6 + age };
+    vec![open(8), request(&[100, 101]), body, sweep(1_999_999_999), sweep(2_000_000_000)]
 }
 
 fn open(min_peers_for_fanout: u64) -> Call {
