@@ -1,7 +1,7 @@
 //! Hand-made sequences, for states that a run of some thousand generated calls may miss.
 
 use crate::checks::Sequence;
-use calls::{Call, MAX_BYTE_LIMIT, SEATS, Settings, Window};
+use calls::{Call, Hash, MAX_BYTE_LIMIT, SEATS, Settings, Window};
 
 /// Each through the given window, the original.
 pub fn sequences(window: &mut dyn Window) -> Vec<Sequence> {
@@ -9,18 +9,76 @@ pub fn sequences(window: &mut dyn Window) -> Vec<Sequence> {
         let outcomes = calls.iter().map(|call| window.call(call)).collect();
         Sequence { calls, outcomes }
     };
-    vec![few_eligible_peers()].into_iter().map(run).collect()
+    // bodies that turn the first mean into 524,288 and 524,289
+    let all = [
+        few_eligible_peers(),
+        plan_after(2_359_296),
+        plan_after(2_359_304),
+        no_plan_in_fanout(),
+        plan_at_the_top(),
+        staged_at_front(),
+        passed_over_at_the_wait(),
+    ];
+    all.into_iter().map(run).collect()
 }
 
 /// Fan-out active with no eligible peer and with one: the share is of one peer, and no other limit hides it.
 fn few_eligible_peers() -> Vec<Call> {
+    let mut calls = vec![open(0)];
+    for count in [0, 1, 2, 3] {
+        calls.push(Call::SetFanoutEligiblePeers { clock: 5, count });
+        calls.push(Call::EffectivePeerInflight);
+        calls.push(Call::ComputeRequestCapacity { source: 7, byte_headroom: u64::MAX, count_headroom: u64::MAX });
+    }
+    calls
+}
+
+/// A plan where the mean allows four hashes, or just does not; confirmed for another owner, then for its own.
+fn plan_after(bytes: u64) -> Vec<Call> {
+    let body = Call::MarkReceivedFrom { clock: 7, hash: hash(99), bytes, source: None };
+    vec![open(8), request(&[100, 101, 102, 103, 104]), body, Call::PrefixProbePlan, confirm(4), confirm(3)]
+}
+
+/// Nothing but the fan-out stands against a plan.
+fn no_plan_in_fanout() -> Vec<Call> {
+    let fanout = Call::SetFanoutEligiblePeers { clock: 7, count: 0 };
+    vec![open(0), request(&[100, 101, 102, 103, 104]), fanout, Call::PrefixProbePlan, confirm(3)]
+}
+
+/// After the greatest height the same is expected again.
+fn plan_at_the_top() -> Vec<Call> {
+    let top = u32::MAX;
+    vec![open(8), request(&[top - 2, top - 1, top, top, top]), Call::PrefixProbePlan]
+}
+
+/// All blocks the window but for the staged height, which is the front's; then it is above.
+fn staged_at_front() -> Vec<Call> {
+    let look = |staged_height| Call::ObserveBlocked {
+        clock: 8,
+        next_apply_height: Some(100),
+        frontier_hash: None,
+        busy: false,
+        staged_count: 16,
+        staged_height,
+    };
+    vec![open(8), request(&[100, 101]), look(Some(100)), Call::StallingPeer, look(Some(101)), Call::StallingPeer]
+}
+
+/// The owner's last body is later than the request, and the entry's age reaches the stall wait.
+fn passed_over_at_the_wait() -> Vec<Call> {
+    let body = Call::CreditDeliveryFrom { clock: 7, hash: hash(99), source: 3, pending_height: None };
+    let sweep = |age: u64| Call::ExpirePending { clock: 6 + age };
+    vec![open(8), request(&[100, 101]), body, sweep(1_999_999_999), sweep(2_000_000_000)]
+}
+
+fn open(min_peers_for_fanout: u64) -> Call {
     let settings = Settings {
         max_pending_blocks: 256,
         max_pending_bytes: MAX_BYTE_LIMIT,
         max_received_blocks: 16,
         max_peer_inflight: 300,
         fanout_peer_inflight: 16,
-        min_peers_for_fanout: 0,
+        min_peers_for_fanout,
         getdata_batch_limit: 300,
         block_spacing: 600_000_000_000,
         received_timeout: 3_000_000_000,
@@ -28,11 +86,21 @@ fn few_eligible_peers() -> Vec<Call> {
         stall_timeout_max: 64_000_000_000,
         staller_cooldown: 10_000_000_000,
     };
-    let mut calls = vec![Call::Open { clock: 5, settings, keys: vec![0; SEATS] }];
-    for count in [0, 1, 2, 3] {
-        calls.push(Call::SetFanoutEligiblePeers { clock: 5, count });
-        calls.push(Call::EffectivePeerInflight);
-        calls.push(Call::ComputeRequestCapacity { source: 7, byte_headroom: u64::MAX, count_headroom: u64::MAX });
-    }
-    calls
+    Call::Open { clock: 5, settings, keys: vec![0; SEATS] }
+}
+
+fn hash(index: u8) -> Hash {
+    Hash([index; 32])
+}
+
+/// Entries of these heights for the seat 3.
+fn request(heights: &[u32]) -> Call {
+    let entries = (0..).map(hash).zip(heights.iter().copied()).collect();
+    let headroom = u64::MAX;
+    Call::MarkRequested { clock: 6, owner: 3, entries, next_request_height: 0, byte_headroom: headroom, count_headroom: headroom }
+}
+
+/// The first four hashes, raced by the seats 8 and 9.
+fn confirm(owner: u8) -> Call {
+    Call::ConfirmPrefixProbe { clock: 8, owner, hashes: (0..4).map(hash).collect(), alternates: vec![8, 9] }
 }
