@@ -1,3 +1,1 @@
-pub mod Admits
 pub mod Changes
-pub mod Seated

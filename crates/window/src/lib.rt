@@ -1,342 +1,12 @@
 // THE PUBLIC CRATE: every call with its refusals, on the lent words. No function has a `requires`.
 ghost use mathlib.Core.Path.{_≡_};
-ghost use mathlib.Core.Bool.{true, false};
 ghost use mathlib.Core.List.{[]};
-ghost use Rattle.model.specs.Refusals.{changes, queries, at, timeless, checking, nothing, window-refusal, clears-preferred, credits-duplicate, sets-fanout, marks-unresponsive, fetches};
-ghost use Rattle.model.specs.Queries.{reads, pending-len, pending-bytes, asks-expired-capacity, stall-timeout, max-pending-blocks, min-peers-for-fanout, fanout-active, pending-high-water, stalling-peer, peer-inflight, active-peers, decay-floor, request-cursor, ewma-block-bytes, asks-request-capacity, asks-contains, asks-count-for, asks-downloading, owner-timeout, asks-hedge-offered, asks-has-expired, asks-cooldown};
+ghost use Rattle.model.specs.Refusals.{changes, clears-preferred, credits-duplicate, sets-fanout, marks-unresponsive, fetches};
 ghost use Rattle.model.specs.Perform.{perform};
-ghost use Rattle.model.specs.Says.{number-says, pair-says, perhaps-pair-says, truth-says, accepted-says, fetch-says};
+ghost use Rattle.model.specs.Says.{accepted-says, fetch-says};
 use model::Accepted;
 use model::Fetch;
 use model::Hash;
-use model::Number;
-use model::Pair;
-use model::PerhapsPair;
-use model::Truth;
-
-// ---- refusals
-
-// What a call or query without a clock and without a report is refused by: 1, 2, 6, or 0 for none.
-fn admits(words: &[u64], peers: bool) -> u64
-    ensures { λ r. ⌜ r ≡ window-refusal (checking false timeless peers nothing) (now (words .entry)) 0 ⌝ }
-{
-    if words.len() != 4096 {
-        return 1;
-    }
-    if !check_window::is_window(words) {
-        return 2;
-    }
-    if !peers {
-        return 6;
-    }
-    0
-}
-
-// The same with a clock: 1, 2, 4, 6, or 0 for none.
-fn admits_at(words: &[u64], clock: u64, peers: bool) -> u64
-    ensures { λ r. ⌜ r ≡ window-refusal (checking false (at clock) peers nothing) (now (words .entry)) 0 ⌝ }
-{
-    if words.len() != 4096 {
-        return 1;
-    }
-    if !check_window::is_window(words) {
-        return 2;
-    }
-    if clock > 4611686018427387904 {
-        return 4;
-    }
-    let last = state::get_clock(words);
-    if clock < last {
-        return 4;
-    }
-    if !peers {
-        return 6;
-    }
-    0
-}
-
-// ---- queries
-
-// How many blocks are pending.
-pub fn pending_len(words: &[u64]) -> Number
-    ensures { λ r. ⌜ number-says r ≡ perform (queries (reads pending-len)) (now (words .entry)) [] .answer ⌝ }
-{
-    let n = admits(words, true);
-    if n != 0 {
-        return Number::Refused(n);
-    }
-    let x = state_queue::pending_count(words);
-    Number::Is(x as u64)
-}
-
-// Their estimates in bytes, all together.
-pub fn pending_bytes(words: &[u64]) -> Number
-    ensures { λ r. ⌜ number-says r ≡ perform (queries (reads pending-bytes)) (now (words .entry)) [] .answer ⌝ }
-{
-    let n = admits(words, true);
-    if n != 0 {
-        return Number::Refused(n);
-    }
-    let x = state::get_total(words);
-    Number::Is(x)
-}
-
-// How many blocks a peer may have in flight.
-pub fn effective_peer_inflight(words: &[u64]) -> Number
-    ensures { λ r. ⌜ number-says r ≡ perform (queries (reads peer-inflight)) (now (words .entry)) [] .answer ⌝ }
-{
-    let n = admits(words, true);
-    if n != 0 {
-        return Number::Refused(n);
-    }
-    let x = queries::effective_peer_inflight(words);
-    Number::Is(x)
-}
-
-// How many seats have blocks pending.
-pub fn active_downloading_peers(words: &[u64]) -> Number
-    ensures { λ r. ⌜ number-says r ≡ perform (queries (reads active-peers)) (now (words .entry)) [] .answer ⌝ }
-{
-    let n = admits(words, true);
-    if n != 0 {
-        return Number::Refused(n);
-    }
-    let x = state::active_peers(words);
-    Number::Is(x)
-}
-
-// The least that the stall wait decays to.
-pub fn stall_decay_floor(words: &[u64]) -> Number
-    ensures { λ r. ⌜ number-says r ≡ perform (queries (reads decay-floor)) (now (words .entry)) [] .answer ⌝ }
-{
-    let n = admits(words, true);
-    if n != 0 {
-        return Number::Refused(n);
-    }
-    let x = queries::stall_decay_floor(words);
-    Number::Is(x)
-}
-
-// The frontier: the next height to ask for.
-pub fn request_cursor(words: &[u64]) -> Number
-    ensures { λ r. ⌜ number-says r ≡ perform (queries (reads request-cursor)) (now (words .entry)) [] .answer ⌝ }
-{
-    let n = admits(words, true);
-    if n != 0 {
-        return Number::Refused(n);
-    }
-    let x = state::get_frontier(words);
-    Number::Is(x)
-}
-
-// The mean of a block in bytes.
-pub fn ewma_block_bytes(words: &[u64]) -> Number
-    ensures { λ r. ⌜ number-says r ≡ perform (queries (reads ewma-block-bytes)) (now (words .entry)) [] .answer ⌝ }
-{
-    let n = admits(words, true);
-    if n != 0 {
-        return Number::Refused(n);
-    }
-    let x = state::get_mean(words);
-    Number::Is(x)
-}
-
-// How many blocks are pending with a seat.
-pub fn pending_count_for(words: &[u64], seat: u64) -> Number
-    ensures { λ r. ⌜ number-says r ≡ perform (queries (asks-count-for seat)) (now (words .entry)) [] .answer ⌝ }
-{
-    let n = admits(words, seat <= 255);
-    if n != 0 {
-        return Number::Refused(n);
-    }
-    let x = state_queue::pending_count_for(words, seat);
-    Number::Is(x)
-}
-
-// Whether more may be asked for.
-pub fn has_request_capacity(words: &[u64], byte_headroom: u64, count_headroom: u64) -> Truth
-    ensures { λ r. ⌜ truth-says r ≡ perform (queries (asks-request-capacity «byte_headroom» «count_headroom»)) (now (words .entry)) [] .answer ⌝ }
-{
-    let n = admits(words, true);
-    if n != 0 {
-        return Truth::Refused(n);
-    }
-    if queries::has_request_capacity(words, byte_headroom, count_headroom) {
-        return Truth::Affirmed;
-    }
-    Truth::Denied
-}
-
-// Whether the block of a hash is pending.
-pub fn contains_pending(words: &[u64], h: Hash) -> Truth
-    ensures { λ r. ⌜ truth-says r ≡ perform (queries (asks-contains h)) (now (words .entry)) [] .answer ⌝ }
-{
-    let n = admits(words, true);
-    if n != 0 {
-        return Truth::Refused(n);
-    }
-    if queries::contains_pending(words, h) {
-        return Truth::Affirmed;
-    }
-    Truth::Denied
-}
-
-// Whether a seat has blocks pending.
-pub fn is_downloading(words: &[u64], seat: u64) -> Truth
-    ensures { λ r. ⌜ truth-says r ≡ perform (queries (asks-downloading seat)) (now (words .entry)) [] .answer ⌝ }
-{
-    let n = admits(words, seat <= 255);
-    if n != 0 {
-        return Truth::Refused(n);
-    }
-    if queries::is_downloading(words, seat as usize) {
-        return Truth::Affirmed;
-    }
-    Truth::Denied
-}
-
-// How long an owner may take: by the window's own active seats.
-pub fn effective_owner_timeout(words: &[u64]) -> Number
-    ensures { λ r. ⌜ number-says r ≡ perform (queries (reads owner-timeout)) (now (words .entry)) [] .answer ⌝ }
-{
-    let n = admits(words, true);
-    if n != 0 {
-        return Number::Refused(n);
-    }
-    let x = sweep::timeout_of(words);
-    Number::Is(x)
-}
-
-// Whether a hedge of this hash may be offered to a seat.
-pub fn hedge_offered(words: &[u64], seat: u64, h: Hash) -> Truth
-    ensures { λ r. ⌜ truth-says r ≡ perform (queries (asks-hedge-offered seat h)) (now (words .entry)) [] .answer ⌝ }
-{
-    let n = admits(words, seat <= 255);
-    if n != 0 {
-        return Truth::Refused(n);
-    }
-    if cold_front::hedge_offered(words, seat, h) {
-        return Truth::Affirmed;
-    }
-    Truth::Denied
-}
-
-// Whether a seat has blocks that are past its time.
-pub fn peer_has_expired_pending(words: &[u64], seat: u64, clock: u64) -> Truth
-    ensures { λ r. ⌜ truth-says r ≡ perform (queries (asks-has-expired seat clock)) (now (words .entry)) [] .answer ⌝ }
-{
-    let n = admits_at(words, clock, seat <= 255);
-    if n != 0 {
-        return Truth::Refused(n);
-    }
-    if sweep::peer_has_expired_pending(words, seat as usize, clock) {
-        return Truth::Affirmed;
-    }
-    Truth::Denied
-}
-
-// Whether the key of a seat is cooling.
-pub fn peer_in_staller_cooldown(words: &[u64], seat: u64, clock: u64) -> Truth
-    ensures { λ r. ⌜ truth-says r ≡ perform (queries (asks-cooldown seat clock)) (now (words .entry)) [] .answer ⌝ }
-{
-    let n = admits_at(words, clock, seat <= 255);
-    if n != 0 {
-        return Truth::Refused(n);
-    }
-    if state_cooling::in_cooldown(words, seat as usize, clock) {
-        return Truth::Affirmed;
-    }
-    Truth::Denied
-}
-
-// The most that was pending: blocks, and bytes.
-pub fn pending_high_water(words: &[u64]) -> Pair
-    ensures { λ r. ⌜ pair-says r ≡ perform (queries (reads pending-high-water)) (now (words .entry)) [] .answer ⌝ }
-{
-    let n = admits(words, true);
-    if n != 0 {
-        return Pair::Refused(n);
-    }
-    let x = state::get_high_blocks(words);
-    let y = state::get_high_bytes(words);
-    Pair::Both(x, y)
-}
-
-// The key of the stalling seat, and since when.
-pub fn stalling_peer(words: &[u64]) -> PerhapsPair
-    ensures { λ r. ⌜ perhaps-pair-says r ≡ perform (queries (reads stalling-peer)) (now (words .entry)) [] .answer ⌝ }
-{
-    let n = admits(words, true);
-    if n != 0 {
-        return PerhapsPair::Refused(n);
-    }
-    queries::stalling_peer(words)
-}
-
-// The stall wait.
-pub fn stall_timeout(words: &[u64]) -> Number
-    ensures { λ r. ⌜ number-says r ≡ perform (queries (reads stall-timeout)) (now (words .entry)) [] .answer ⌝ }
-{
-    let n = admits(words, true);
-    if n != 0 {
-        return Number::Refused(n);
-    }
-    let p = state::get_pace(words);
-    Number::Is(p.wait)
-}
-
-// The setting of that name.
-pub fn max_pending_blocks(words: &[u64]) -> Number
-    ensures { λ r. ⌜ number-says r ≡ perform (queries (reads max-pending-blocks)) (now (words .entry)) [] .answer ⌝ }
-{
-    let n = admits(words, true);
-    if n != 0 {
-        return Number::Refused(n);
-    }
-    let p = state::get_settings(words);
-    Number::Is(p.max_pending_blocks)
-}
-
-// The setting of that name.
-pub fn min_peers_for_fanout(words: &[u64]) -> Number
-    ensures { λ r. ⌜ number-says r ≡ perform (queries (reads min-peers-for-fanout)) (now (words .entry)) [] .answer ⌝ }
-{
-    let n = admits(words, true);
-    if n != 0 {
-        return Number::Refused(n);
-    }
-    let p = state::get_settings(words);
-    Number::Is(p.min_peers_for_fanout)
-}
-
-// Whether requests fan out.
-pub fn fanout_active(words: &[u64]) -> Truth
-    ensures { λ r. ⌜ truth-says r ≡ perform (queries (reads fanout-active)) (now (words .entry)) [] .answer ⌝ }
-{
-    let n = admits(words, true);
-    if n != 0 {
-        return Truth::Refused(n);
-    }
-    let f = state::get_fanout(words);
-    if f.engaged {
-        return Truth::Affirmed;
-    }
-    Truth::Denied
-}
-
-// The forecast: blocks and bytes that expired owners hold.
-pub fn expired_pending_capacity(words: &[u64], clock: u64) -> Pair
-    ensures { λ r. ⌜ pair-says r ≡ perform (queries (asks-expired-capacity clock)) (now (words .entry)) [] .answer ⌝ }
-{
-    let n = admits_at(words, clock, true);
-    if n != 0 {
-        return Pair::Refused(n);
-    }
-    let f = sweep::expired_pending_capacity(words, clock);
-    Pair::Both(f.blocks, f.bytes)
-}
-
-// ---- calls
 
 pub fn clear_preferred_peer(words: &mut [u64]) -> Accepted
     ensures { λ r. ⌜
@@ -344,7 +14,7 @@ pub fn clear_preferred_peer(words: &mut [u64]) -> Accepted
         × (now (words .exit) ≡ perform (changes clears-preferred) (now (words .entry)) [] .words)
         ⌝ }
 {
-    let n = admits(words, true);
+    let n = admission::admits(words, true);
     if n != 0 {
         return Accepted::Refused(n);
     }
@@ -358,7 +28,7 @@ pub fn set_fanout_eligible_peers(words: &mut [u64], n: u64, clock: u64) -> Accep
         × (now (words .exit) ≡ perform (changes (sets-fanout clock n)) (now (words .entry)) [] .words)
         ⌝ }
 {
-    let k = admits_at(words, clock, true);
+    let k = admission::admits_at(words, clock, true);
     if k != 0 {
         return Accepted::Refused(k);
     }
@@ -373,7 +43,7 @@ pub fn credit_duplicate_delivery(words: &mut [u64], h: Hash, source: u64) -> Acc
         × (now (words .exit) ≡ perform (changes (credits-duplicate h source)) (now (words .entry)) [] .words)
         ⌝ }
 {
-    let n = admits(words, source <= 255);
+    let n = admission::admits(words, source <= 255);
     if n != 0 {
         return Accepted::Refused(n);
     }
@@ -387,7 +57,7 @@ pub fn mark_peer_unresponsive(words: &mut [u64], source: u64, clock: u64) -> Acc
         × (now (words .exit) ≡ perform (changes (marks-unresponsive clock source)) (now (words .entry)) [] .words)
         ⌝ }
 {
-    let k = admits_at(words, clock, source <= 255);
+    let k = admission::admits_at(words, clock, source <= 255);
     if k != 0 {
         return Accepted::Refused(k);
     }
@@ -411,7 +81,7 @@ pub fn mark_owned_fetch(
         × (now (words .exit) ≡ perform (changes (fetches clock owner h height «is_staged» «byte_headroom» «count_headroom»)) (now (words .entry)) [] .words)
         ⌝ }
 {
-    let k = admits_at(words, clock, owner <= 255);
+    let k = admission::admits_at(words, clock, owner <= 255);
     if k != 0 {
         return Fetch::Refused(k);
     }

@@ -1,0 +1,291 @@
+// THE PUBLIC QUERIES: each with its refusals, on the lent words, which it does not write. No function has a `requires`.
+ghost use mathlib.Core.Path.{_≡_};
+ghost use mathlib.Core.List.{[]};
+ghost use Rattle.model.specs.Refusals.{queries};
+ghost use Rattle.model.specs.Queries.{reads, pending-len, pending-bytes, asks-expired-capacity, stall-timeout, max-pending-blocks, min-peers-for-fanout, fanout-active, pending-high-water, stalling-peer, peer-inflight, active-peers, decay-floor, request-cursor, ewma-block-bytes, asks-request-capacity, asks-contains, asks-count-for, asks-downloading, owner-timeout, asks-hedge-offered, asks-has-expired, asks-cooldown};
+ghost use Rattle.model.specs.Perform.{perform};
+ghost use Rattle.model.specs.Says.{number-says, pair-says, perhaps-pair-says, truth-says};
+use model::Hash;
+use model::Number;
+use model::Pair;
+use model::PerhapsPair;
+use model::Truth;
+
+// How many blocks are pending.
+pub fn pending_len(words: &[u64]) -> Number
+    ensures { λ r. ⌜ number-says r ≡ perform (queries (reads pending-len)) (now (words .entry)) [] .answer ⌝ }
+{
+    let n = admission::admits(words, true);
+    if n != 0 {
+        return Number::Refused(n);
+    }
+    let x = state_queue::pending_count(words);
+    Number::Is(x as u64)
+}
+
+// Their estimates in bytes, all together.
+pub fn pending_bytes(words: &[u64]) -> Number
+    ensures { λ r. ⌜ number-says r ≡ perform (queries (reads pending-bytes)) (now (words .entry)) [] .answer ⌝ }
+{
+    let n = admission::admits(words, true);
+    if n != 0 {
+        return Number::Refused(n);
+    }
+    let x = state::get_total(words);
+    Number::Is(x)
+}
+
+// How many blocks a peer may have in flight.
+pub fn effective_peer_inflight(words: &[u64]) -> Number
+    ensures { λ r. ⌜ number-says r ≡ perform (queries (reads peer-inflight)) (now (words .entry)) [] .answer ⌝ }
+{
+    let n = admission::admits(words, true);
+    if n != 0 {
+        return Number::Refused(n);
+    }
+    let x = queries::effective_peer_inflight(words);
+    Number::Is(x)
+}
+
+// How many seats have blocks pending.
+pub fn active_downloading_peers(words: &[u64]) -> Number
+    ensures { λ r. ⌜ number-says r ≡ perform (queries (reads active-peers)) (now (words .entry)) [] .answer ⌝ }
+{
+    let n = admission::admits(words, true);
+    if n != 0 {
+        return Number::Refused(n);
+    }
+    let x = state::active_peers(words);
+    Number::Is(x)
+}
+
+// The least that the stall wait decays to.
+pub fn stall_decay_floor(words: &[u64]) -> Number
+    ensures { λ r. ⌜ number-says r ≡ perform (queries (reads decay-floor)) (now (words .entry)) [] .answer ⌝ }
+{
+    let n = admission::admits(words, true);
+    if n != 0 {
+        return Number::Refused(n);
+    }
+    let x = queries::stall_decay_floor(words);
+    Number::Is(x)
+}
+
+// The frontier: the next height to ask for.
+pub fn request_cursor(words: &[u64]) -> Number
+    ensures { λ r. ⌜ number-says r ≡ perform (queries (reads request-cursor)) (now (words .entry)) [] .answer ⌝ }
+{
+    let n = admission::admits(words, true);
+    if n != 0 {
+        return Number::Refused(n);
+    }
+    let x = state::get_frontier(words);
+    Number::Is(x)
+}
+
+// The mean of a block in bytes.
+pub fn ewma_block_bytes(words: &[u64]) -> Number
+    ensures { λ r. ⌜ number-says r ≡ perform (queries (reads ewma-block-bytes)) (now (words .entry)) [] .answer ⌝ }
+{
+    let n = admission::admits(words, true);
+    if n != 0 {
+        return Number::Refused(n);
+    }
+    let x = state::get_mean(words);
+    Number::Is(x)
+}
+
+// How many blocks are pending with a seat.
+pub fn pending_count_for(words: &[u64], seat: u64) -> Number
+    ensures { λ r. ⌜ number-says r ≡ perform (queries (asks-count-for seat)) (now (words .entry)) [] .answer ⌝ }
+{
+    let n = admission::admits(words, seat <= 255);
+    if n != 0 {
+        return Number::Refused(n);
+    }
+    let x = state_queue::pending_count_for(words, seat);
+    Number::Is(x)
+}
+
+// Whether more may be asked for.
+pub fn has_request_capacity(words: &[u64], byte_headroom: u64, count_headroom: u64) -> Truth
+    ensures { λ r. ⌜ truth-says r ≡ perform (queries (asks-request-capacity «byte_headroom» «count_headroom»)) (now (words .entry)) [] .answer ⌝ }
+{
+    let n = admission::admits(words, true);
+    if n != 0 {
+        return Truth::Refused(n);
+    }
+    if queries::has_request_capacity(words, byte_headroom, count_headroom) {
+        return Truth::Affirmed;
+    }
+    Truth::Denied
+}
+
+// Whether the block of a hash is pending.
+pub fn contains_pending(words: &[u64], h: Hash) -> Truth
+    ensures { λ r. ⌜ truth-says r ≡ perform (queries (asks-contains h)) (now (words .entry)) [] .answer ⌝ }
+{
+    let n = admission::admits(words, true);
+    if n != 0 {
+        return Truth::Refused(n);
+    }
+    if queries::contains_pending(words, h) {
+        return Truth::Affirmed;
+    }
+    Truth::Denied
+}
+
+// Whether a seat has blocks pending.
+pub fn is_downloading(words: &[u64], seat: u64) -> Truth
+    ensures { λ r. ⌜ truth-says r ≡ perform (queries (asks-downloading seat)) (now (words .entry)) [] .answer ⌝ }
+{
+    let n = admission::admits(words, seat <= 255);
+    if n != 0 {
+        return Truth::Refused(n);
+    }
+    if queries::is_downloading(words, seat as usize) {
+        return Truth::Affirmed;
+    }
+    Truth::Denied
+}
+
+// How long an owner may take: by the window's own active seats.
+pub fn effective_owner_timeout(words: &[u64]) -> Number
+    ensures { λ r. ⌜ number-says r ≡ perform (queries (reads owner-timeout)) (now (words .entry)) [] .answer ⌝ }
+{
+    let n = admission::admits(words, true);
+    if n != 0 {
+        return Number::Refused(n);
+    }
+    let x = sweep::timeout_of(words);
+    Number::Is(x)
+}
+
+// Whether a hedge of this hash may be offered to a seat.
+pub fn hedge_offered(words: &[u64], seat: u64, h: Hash) -> Truth
+    ensures { λ r. ⌜ truth-says r ≡ perform (queries (asks-hedge-offered seat h)) (now (words .entry)) [] .answer ⌝ }
+{
+    let n = admission::admits(words, seat <= 255);
+    if n != 0 {
+        return Truth::Refused(n);
+    }
+    if cold_front::hedge_offered(words, seat, h) {
+        return Truth::Affirmed;
+    }
+    Truth::Denied
+}
+
+// Whether a seat has blocks that are past its time.
+pub fn peer_has_expired_pending(words: &[u64], seat: u64, clock: u64) -> Truth
+    ensures { λ r. ⌜ truth-says r ≡ perform (queries (asks-has-expired seat clock)) (now (words .entry)) [] .answer ⌝ }
+{
+    let n = admission::admits_at(words, clock, seat <= 255);
+    if n != 0 {
+        return Truth::Refused(n);
+    }
+    if sweep::peer_has_expired_pending(words, seat as usize, clock) {
+        return Truth::Affirmed;
+    }
+    Truth::Denied
+}
+
+// Whether the key of a seat is cooling.
+pub fn peer_in_staller_cooldown(words: &[u64], seat: u64, clock: u64) -> Truth
+    ensures { λ r. ⌜ truth-says r ≡ perform (queries (asks-cooldown seat clock)) (now (words .entry)) [] .answer ⌝ }
+{
+    let n = admission::admits_at(words, clock, seat <= 255);
+    if n != 0 {
+        return Truth::Refused(n);
+    }
+    if state_cooling::in_cooldown(words, seat as usize, clock) {
+        return Truth::Affirmed;
+    }
+    Truth::Denied
+}
+
+// The most that was pending: blocks, and bytes.
+pub fn pending_high_water(words: &[u64]) -> Pair
+    ensures { λ r. ⌜ pair-says r ≡ perform (queries (reads pending-high-water)) (now (words .entry)) [] .answer ⌝ }
+{
+    let n = admission::admits(words, true);
+    if n != 0 {
+        return Pair::Refused(n);
+    }
+    let x = state::get_high_blocks(words);
+    let y = state::get_high_bytes(words);
+    Pair::Both(x, y)
+}
+
+// The key of the stalling seat, and since when.
+pub fn stalling_peer(words: &[u64]) -> PerhapsPair
+    ensures { λ r. ⌜ perhaps-pair-says r ≡ perform (queries (reads stalling-peer)) (now (words .entry)) [] .answer ⌝ }
+{
+    let n = admission::admits(words, true);
+    if n != 0 {
+        return PerhapsPair::Refused(n);
+    }
+    queries::stalling_peer(words)
+}
+
+// The stall wait.
+pub fn stall_timeout(words: &[u64]) -> Number
+    ensures { λ r. ⌜ number-says r ≡ perform (queries (reads stall-timeout)) (now (words .entry)) [] .answer ⌝ }
+{
+    let n = admission::admits(words, true);
+    if n != 0 {
+        return Number::Refused(n);
+    }
+    let p = state::get_pace(words);
+    Number::Is(p.wait)
+}
+
+// The setting of that name.
+pub fn max_pending_blocks(words: &[u64]) -> Number
+    ensures { λ r. ⌜ number-says r ≡ perform (queries (reads max-pending-blocks)) (now (words .entry)) [] .answer ⌝ }
+{
+    let n = admission::admits(words, true);
+    if n != 0 {
+        return Number::Refused(n);
+    }
+    let p = state::get_settings(words);
+    Number::Is(p.max_pending_blocks)
+}
+
+// The setting of that name.
+pub fn min_peers_for_fanout(words: &[u64]) -> Number
+    ensures { λ r. ⌜ number-says r ≡ perform (queries (reads min-peers-for-fanout)) (now (words .entry)) [] .answer ⌝ }
+{
+    let n = admission::admits(words, true);
+    if n != 0 {
+        return Number::Refused(n);
+    }
+    let p = state::get_settings(words);
+    Number::Is(p.min_peers_for_fanout)
+}
+
+// Whether requests fan out.
+pub fn fanout_active(words: &[u64]) -> Truth
+    ensures { λ r. ⌜ truth-says r ≡ perform (queries (reads fanout-active)) (now (words .entry)) [] .answer ⌝ }
+{
+    let n = admission::admits(words, true);
+    if n != 0 {
+        return Truth::Refused(n);
+    }
+    let f = state::get_fanout(words);
+    if f.engaged {
+        return Truth::Affirmed;
+    }
+    Truth::Denied
+}
+
+// The forecast: blocks and bytes that expired owners hold.
+pub fn expired_pending_capacity(words: &[u64], clock: u64) -> Pair
+    ensures { λ r. ⌜ pair-says r ≡ perform (queries (asks-expired-capacity clock)) (now (words .entry)) [] .answer ⌝ }
+{
+    let n = admission::admits_at(words, clock, true);
+    if n != 0 {
+        return Pair::Refused(n);
+    }
+    let f = sweep::expired_pending_capacity(words, clock);
+    Pair::Both(f.blocks, f.bytes)
+}
