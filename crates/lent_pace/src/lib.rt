@@ -39,26 +39,26 @@ fn lend_at_front(p: Pace, b: Settings, clock: u64) -> Pace
     requires { ⌜ (clock ≤ max-clock) × (p .mean ≤ suc max-front-mean) × (p .wait ≤ max-duration) ⌝ }
     ensures { λ r. ⌜ r ≡ front-recorded b clock p ⌝ }
 {
-    let mut q = p;
-    record_front(&mut q, b, clock);
-    q
+    let mut recorded = p;
+    record_front(&mut recorded, b, clock);
+    recorded
 }
 
 fn lend_at_blame(p: Pace, b: Settings) -> Pace
     requires { ⌜ (p .mean ≤ suc max-front-mean) × (p .wait ≤ max-duration) × (b .«stall_timeout_max» ≤ max-duration) ⌝ }
     ensures { λ r. ⌜ r ≡ wait-widened b p ⌝ }
 {
-    let mut q = p;
-    widen_wait(&mut q, b);
-    q
+    let mut widened = p;
+    widen_wait(&mut widened, b);
+    widened
 }
 
 fn lend_at_opening(p: Pace, b: Settings) -> Pace
     ensures { λ r. ⌜ r ≡ pace-opened b ⌝ }
 {
-    let mut q = p;
-    set_at_opening(&mut q, b);
-    q
+    let mut opened = p;
+    set_at_opening(&mut opened, b);
+    opened
 }
 
 // What changes a pace.
