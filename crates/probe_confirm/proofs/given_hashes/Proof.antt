@@ -6,7 +6,8 @@ use native.Mathlib.Omega.{arith}
 use lib.ListN.{length, getD}
 use Rattle.model.specs.Hash.{hashes-in}
 use Rattle.plans.specs.Rows.{row-hash}
-use Rattle.probe_confirm.specs.Confirms.{Filled, filled-start, filled-step, filled-done, given-count, given-row}
+use Rattle.probe_hashes.specs.Rows.{Filled, filled-start, filled-step, filled-done}
+use Rattle.probe_confirm.specs.Confirms.{given-count, given-row}
 use borrow.Author.Needs.{needs}
 use Rattle.probe_confirm.proofs.given_hashes.Statement.{statement}
 use Rattle.probe_confirm.proofs.given_hashes.Tie as tie

@@ -7,7 +7,8 @@ use lib.ListN.{length}
 use borrow.Author.Tests.{eq-eqb, ne-eqb}
 use Rattle.model.specs.Hash.{hashes-in}
 use Rattle.plans.specs.Rows.{rows-hashes}
-use Rattle.probe_confirm.specs.Confirms.{rows-same, count-hashes, given-count}
+use Rattle.probe_hashes.specs.Rows.{count-hashes}
+use Rattle.probe_confirm.specs.Confirms.{rows-same, given-count}
 use borrow.Author.Needs.{needs}
 use Rattle.probe_confirm.proofs.is_plan.Statement.{statement}
 use Rattle.probe_confirm.proofs.is_plan.Tie as tie

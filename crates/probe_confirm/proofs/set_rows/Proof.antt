@@ -8,7 +8,7 @@ use Rattle.laws.specs.Tables.{with-words}
 use Rattle.laws.specs.Groups.{plan-in}
 use Rattle.laws.specs.Whole.{lifted, words-shaped}
 use Rattle.plans.specs.Rows.{rows-words, rows-hashes}
-use Rattle.probe_confirm.specs.Confirms.{count-hashes}
+use Rattle.probe_hashes.specs.Rows.{count-hashes}
 use borrow.Author.Needs.{needs}
 use Rattle.probe_confirm.proofs.set_rows.Statement.{statement}
 use Rattle.probe_confirm.proofs.set_rows.Tie as tie

@@ -1,4 +1,4 @@
--- `probe_confirm::plan_hashes` meets its contract. Assumes nothing.
+-- `probe_hashes::plan_hashes` meets its contract. Assumes nothing.
 use mathlib.Core.Path.{_≡_, refl, sym, ap, _∙_}
 use mathlib.Core.List.{List}
 use Prim.Native.Nat.{ℕ, _-_, _≤_, _<_}
@@ -9,10 +9,10 @@ use Rattle.model.specs.declared.Hash.{Hash}
 use Rattle.plans.specs.Rows.{row-hash}
 use Rattle.prefix_probe.specs.Walks.{hashes-at}
 use Rattle.probe_plan.specs.Plans.{count-planned}
-use Rattle.probe_confirm.specs.Confirms.{Filled, filled-start, filled-step, filled-done, how-few, plan-list, plan-row}
+use Rattle.probe_hashes.specs.Rows.{Filled, filled-start, filled-step, filled-done, how-few, plan-list, plan-row}
 use borrow.Author.Needs.{needs}
-use Rattle.probe_confirm.proofs.plan_hashes.Statement.{statement}
-use Rattle.probe_confirm.proofs.plan_hashes.Tie as tie
+use Rattle.probe_hashes.proofs.plan_hashes.Statement.{statement}
+use Rattle.probe_hashes.proofs.plan_hashes.Tie as tie
 
 abbrev Inv-loop : tie.InvT-loop
 Inv-loop words places n rows₀ i₀ rows i = (i ≤ n) × Filled i (hashes-at (window-of words .queue .pending) (take n places)) rows

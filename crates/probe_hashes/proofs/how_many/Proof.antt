@@ -1,8 +1,8 @@
--- `probe_confirm::how_many` meets its contract. Assumes nothing.
+-- `probe_hashes::how_many` meets its contract. Assumes nothing.
 use Rattle.model.specs.Races.{win-blocks}
 use borrow.Author.Tests.{lt-leb, le-leb}
-use Rattle.probe_confirm.proofs.how_many.Statement.{statement}
-use Rattle.probe_confirm.proofs.how_many.Tie as tie
+use Rattle.probe_hashes.proofs.how_many.Statement.{statement}
+use Rattle.probe_hashes.proofs.how_many.Tie as tie
 
 returns : tie.Need-returns
 returns c = rw (lt-leb win-blocks (c .before .args .n) (c .if1 .taken))

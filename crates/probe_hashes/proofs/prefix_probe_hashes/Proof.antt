@@ -1,7 +1,7 @@
--- `probe_confirm::prefix_probe_hashes` meets its contract. Assumes nothing.
+-- `probe_hashes::prefix_probe_hashes` meets its contract. Assumes nothing.
 use borrow.Author.Needs.{needs}
-use Rattle.probe_confirm.proofs.prefix_probe_hashes.Statement.{statement}
-use Rattle.probe_confirm.proofs.prefix_probe_hashes.Tie as tie
+use Rattle.probe_hashes.proofs.prefix_probe_hashes.Statement.{statement}
+use Rattle.probe_hashes.proofs.prefix_probe_hashes.Tie as tie
 
 make-plan-requires : tie.Need-make-plan-requires
 make-plan-requires c κs = search needs
