@@ -45,6 +45,7 @@ fn given_hashes(given: &[u64], n: usize) -> [[u64; 4]; 8]
     rows
 }
 
+// `same` of two rows.
 fn same_row(a: [u64; 4], b: [u64; 4]) -> bool
     ensures { λ r. ⌜ r ≡ same (row-hash a) (row-hash b) ⌝ }
 {
