@@ -2,11 +2,13 @@
 ghost use mathlib.Core.Path.{_≡_};
 ghost use mathlib.Core.List.{[]};
 ghost use Rattle.model.specs.Refusals.{changes, clears-preferred, credits-duplicate, sets-fanout, marks-unresponsive, fetches};
+ghost use Rattle.model.specs.Refusals.{opens, requests};
 ghost use Rattle.model.specs.Perform.{perform};
 ghost use Rattle.model.specs.Says.{accepted-says, fetch-says};
 use model::Accepted;
 use model::Fetch;
 use model::Hash;
+use model::Settings;
 
 pub fn clear_preferred_peer(words: &mut [u64]) -> Accepted
     ensures { λ r. ⌜
@@ -97,4 +99,20 @@ pub fn mark_owned_fetch(
     );
     state::set_clock(words, clock);
     r
+}
+
+// ---- the opening and the request
+
+pub fn open(words: &mut [u64], settings: Settings, keys: &[u64], clock: u64) -> Accepted
+    ensures { λ r. ⌜
+        (accepted-says r ≡ perform (opens clock settings (now (keys .entry))) (now (words .entry)) [] .answer)
+        × (now (words .exit) ≡ perform (opens clock settings (now (keys .entry))) (now (words .entry)) [] .words)
+        ⌝ }
+{
+    let n = admission::admits_opening(words, clock, settings, keys);
+    if n != 0 {
+        return Accepted::Refused(n);
+    }
+    opening::open(words, clock, settings, keys);
+    Accepted::Done
 }
