@@ -5,9 +5,11 @@ ghost use Rattle.model.specs.Refusals.{changes, clears-preferred, credits-dupli
 ghost use Rattle.model.specs.Refusals.{opens, requests};
 ghost use Rattle.model.specs.Perform.{perform};
 ghost use Rattle.model.specs.Says.{accepted-says, fetch-says};
+ghost use Rattle.model.specs.Says.{requested-says};
 use model::Accepted;
 use model::Fetch;
 use model::Hash;
+use model::Requested;
 use model::Settings;
 
 pub fn clear_preferred_peer(words: &mut [u64]) -> Accepted
@@ -115,4 +117,36 @@ pub fn open(words: &mut [u64], settings: Settings, keys: &[u64], clock: u64) -> 
     }
     opening::open(words, clock, settings, keys);
     Accepted::Done
+}
+
+pub fn mark_requested(
+    words: &mut [u64],
+    owner: u64,
+    hashes: &[u64],
+    heights: &[u32],
+    next: u32,
+    byte_headroom: u64,
+    count_headroom: u64,
+    clock: u64,
+) -> Requested
+    ensures { λ r. ⌜
+        (requested-says r ≡ perform (changes (requests clock owner (now (hashes .entry)) (now (heights .entry)) next «byte_headroom» «count_headroom»)) (now (words .entry)) [] .answer)
+        × (now (words .exit) ≡ perform (changes (requests clock owner (now (hashes .entry)) (now (heights .entry)) next «byte_headroom» «count_headroom»)) (now (words .entry)) [] .words)
+        ⌝ }
+{
+    let k = admission::admits_at(words, clock, owner <= 255);
+    if k != 0 {
+        return Requested::Refused(k);
+    }
+    let n = request_tests::request_refusal(words, hashes, heights);
+    if n != 0 {
+        return Requested::Refused(n);
+    }
+    requests::mark_requested(words, hashes, heights, owner, next, clock);
+    let room = queries::has_request_capacity(words, byte_headroom, count_headroom);
+    state::set_clock(words, clock);
+    if room {
+        return Requested::Room;
+    }
+    Requested::Full
 }
