@@ -88,7 +88,7 @@ pub fn admits_opening(words: &[u64], clock: u64, b: Settings, keys: &[u64]) -> u
     if words.len() != 4096 {
         return 1;
     }
-    if clock > 4611686018427387904 {
+    if 4611686018427387904 < clock {
         return 4;
     }
     if !settings_fit(b) {

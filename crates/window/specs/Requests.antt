@@ -1,5 +1,5 @@
--- What the promise of a request comes to, from its tests and the steps on the words. Assumes nothing.
-use mathlib.Core.Path.{_≡_, refl, sym, ap, _∙_}
+-- What the promise of a request comes to, from its tests and the request in the words. Assumes nothing.
+use mathlib.Core.Path.{_≡_, refl, sym, _∙_}
 use mathlib.Core.Bool.{Bool, true, false}
 use mathlib.Core.List.{List, [], _∷_}
 use Prim.Native.Nat.{ℕ, _≤_}
@@ -16,7 +16,7 @@ use Rattle.laws.specs.Sound.{Sound}
 use Rattle.laws.specs.Whole.{Whole, Holds}
 use Rattle.laws.specs.Valid.{rising-is}
 use Rattle.laws.specs.Kept.{Requestable, requestable-is, seat-le}
-use Rattle.refusals.specs.Outcomes.{Performed, refused-so, changed-so, admitted, clock-set}
+use Rattle.refusals.specs.Outcomes.{Performed, refused-so, changed-so, admitted}
 
 -- ---- what a call refuses by its content, after its other tests
 
@@ -85,12 +85,8 @@ module _ (c owner : ℕ) (hs ts : List ℕ) (next bytes count : ℕ) (ws : List 
             let g = admitted (checking false (at c) (seat-ok owner) nothing) ws 0 k e z in
             (g .whole, (g .sound-at, (requestable-is (asks-in hs ts) (window-of ws) (sym r ∙ y), seat-le owner (g .passes .peers))))
 
-        -- the capacity is read after the request, the clock set last
-        pub request-so : (ws₁ ws₂ : List ℕ) (more b : Bool) → more ≡ has-request-capacity bytes count (window-of ws₁) → more ≡ b
-            → Holds (mark-requested (asks-in hs ts) owner next c (window-of ws)) ws₁ → Holds (with-clock c (window-of ws₁)) ws₂
-            → Performed (changes asked) ws (says 0 (flag b)) ws₂
+        pub request-so : (a : Answer) (ws′ : List ℕ)
+            → a ≡ says 0 (flag (has-request-capacity bytes count (mark-requested (asks-in hs ts) owner next c (window-of ws))))
+            → Holds (with-clock c (mark-requested (asks-in hs ts) owner next c (window-of ws))) ws′ → Performed (changes asked) ws a ws′
         unfolding changed requested read-clock
-        request-so ws₁ ws₂ more b q t h l =
-            let w = mark-requested (asks-in hs ts) owner next c (window-of ws) in
-            let same : b ≡ has-request-capacity bytes count w = sym t ∙ q ∙ ap (has-request-capacity bytes count) (h .is) in
-            changed-so asked ws ws₂ n (says 0 (flag b)) refusal-is y (λ j. says 0 (flag (same j))) (clock-set c w ws₁ ws₂ h l)
+        request-so a ws′ q h = changed-so asked ws ws′ n a refusal-is y q h

@@ -138,15 +138,18 @@ pub fn mark_requested(
     if k != 0 {
         return Requested::Refused(k);
     }
-    let n = request_tests::request_refusal(words, hashes, heights);
+    let n = request_calls::request_refusal(words, hashes, heights);
     if n != 0 {
         return Requested::Refused(n);
     }
-    requests::mark_requested(words, hashes, heights, owner, next, clock);
-    let room = queries::has_request_capacity(words, byte_headroom, count_headroom);
-    state::set_clock(words, clock);
-    if room {
-        return Requested::Room;
-    }
-    Requested::Full
+    request_calls::request(
+        words,
+        owner,
+        hashes,
+        heights,
+        next,
+        byte_headroom,
+        count_headroom,
+        clock,
+    )
 }

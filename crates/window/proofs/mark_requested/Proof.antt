@@ -1,6 +1,6 @@
 -- `window::mark_requested` meets its contract. Assumes nothing.
 use mathlib.Core.Path.{_≡_, refl}
-use mathlib.Core.Bool.{true, false}
+use Rattle.model.specs.Says.{requested-says}
 use Rattle.window.specs.Requests.{request-refused, request-whole, list-refused, request-ready, request-so}
 use borrow.Author.Needs.{needs}
 use Rattle.window.proofs.mark_requested.Statement.{statement}
@@ -34,46 +34,25 @@ returns-2 c =
     let n = c .before .request-refusal in
     list-refused (a .clock) (a .owner) (a .hashes .now) (a .heights .now) (a .next) (a .byte-headroom) (a .count-headroom) (a .words .now) (k .result) (k .ensures) (c .before .before .before .if1 .left) (n .result) (n .ensures) (c .if2 .taken)
 
-mark-requested-requires : tie.Need-mark-requested-requires
-mark-requested-requires c κs =
+request-requires : tie.Need-request-requires
+request-requires c κs =
     let a = c .before .before .before .before .before .before .before .before .before .before .args in
     let k = c .before .before .before .before .before .admits-at in
     let n = c .before .before .request-refusal in
     request-ready (a .clock) (a .owner) (a .hashes .now) (a .heights .now) (a .next) (a .byte-headroom) (a .count-headroom) (a .words .now) (k .result) (k .ensures) (c .before .before .before .before .if1 .left) (n .result) (n .ensures) (c .before .if2 .left)
-
-has-request-capacity-requires : tie.Need-has-request-capacity-requires
-has-request-capacity-requires c κs = c .before .before .before .mark-requested .ensures .whole
-
-set-clock-requires : tie.Need-set-clock-requires
-set-clock-requires c κs = c .before .before .before .before .before .mark-requested .ensures .whole
 
 same-length-3 : tie.Need-same-length-3
 same-length-3 c = search needs
 
 returns-3 : tie.Need-returns-3
 returns-3 c =
-    let a = c .before .before .before .before .before .before .before .before .before .before .before .before .before .before .before .before .before .before .before .before .args in
-    let k = c .before .before .before .before .before .before .before .before .before .before .before .before .before .before .before .admits-at in
-    let n = c .before .before .before .before .before .before .before .before .before .before .before .before .request-refusal in
-    let m = c .before .before .before .before .before .before .before .before .before .mark-requested in
-    let q = c .before .before .before .before .before .has-request-capacity in
-    let s = c .before .before .before .set-clock in
-    request-so (a .clock) (a .owner) (a .hashes .now) (a .heights .now) (a .next) (a .byte-headroom) (a .count-headroom) (a .words .now) (k .result) (k .ensures) (c .before .before .before .before .before .before .before .before .before .before .before .before .before .before .if1 .left) (n .result) (n .ensures) (c .before .before .before .before .before .before .before .before .before .before .before .if2 .left) (m .last .0) (s .last .0) (q .result) true (q .ensures) (c .if3 .taken) (m .ensures) (s .ensures)
-
-same-length-4 : tie.Need-same-length-4
-same-length-4 c = search needs
-
-returns-4 : tie.Need-returns-4
-returns-4 c =
-    let a = c .before .before .before .before .before .before .before .before .before .before .before .before .before .before .before .before .before .before .before .before .args in
-    let k = c .before .before .before .before .before .before .before .before .before .before .before .before .before .before .before .admits-at in
-    let n = c .before .before .before .before .before .before .before .before .before .before .before .before .request-refusal in
-    let m = c .before .before .before .before .before .before .before .before .before .mark-requested in
-    let q = c .before .before .before .before .before .has-request-capacity in
-    let s = c .before .before .before .set-clock in
-    request-so (a .clock) (a .owner) (a .hashes .now) (a .heights .now) (a .next) (a .byte-headroom) (a .count-headroom) (a .words .now) (k .result) (k .ensures) (c .before .before .before .before .before .before .before .before .before .before .before .before .before .before .if1 .left) (n .result) (n .ensures) (c .before .before .before .before .before .before .before .before .before .before .before .if2 .left) (m .last .0) (s .last .0) (q .result) false (q .ensures) (c .if3 .left) (m .ensures) (s .ensures)
+    let a = c .before .before .before .before .before .before .before .before .before .before .before .before .before .args in
+    let k = c .before .before .before .before .before .before .before .before .admits-at in
+    let n = c .before .before .before .before .before .request-refusal in
+    let q = c .before .before .request in
+    request-so (a .clock) (a .owner) (a .hashes .now) (a .heights .now) (a .next) (a .byte-headroom) (a .count-headroom) (a .words .now) (k .result) (k .ensures) (c .before .before .before .before .before .before .before .if1 .left) (n .result) (n .ensures) (c .before .before .before .before .if2 .left) (requested-says (q .result)) (q .last .0) (q .ensures .0) (q .ensures .1)
 
 pub mark-requested-spec : {M : Type 1} → statement M
 mark-requested-spec =
     tie.close
-    (tie.spec admits-at-requires same-length returns request-refusal-requires same-length-2 returns-2 mark-requested-requires has-request-capacity-requires set-clock-requires same-length-3 returns-3 same-length-4 returns-4)
+    (tie.spec admits-at-requires same-length returns request-refusal-requires same-length-2 returns-2 request-requires same-length-3 returns-3)

@@ -1,4 +1,4 @@
--- `request_tests::request_refusal` meets its contract. Assumes nothing.
+-- `request_calls::request_refusal` meets its contract. Assumes nothing.
 use mathlib.Core.Path.{_≡_, sym, _∙_}
 use native.Mathlib.Omega.{arith}
 use borrow.Author.Tests.{not-true, not-false}
@@ -6,10 +6,10 @@ use lib.ListN.{length}
 use Rattle.model.specs.Calls.{asks-in}
 use Rattle.model.specs.Layout.{window-of}
 use Rattle.requests.specs.Asks.{asks-length}
-use Rattle.request_tests.specs.Listed.{list-pending, list-twice, list-many, list-good}
+use Rattle.request_calls.specs.Listed.{list-pending, list-twice, list-many, list-good}
 use borrow.Author.Needs.{needs}
-use Rattle.request_tests.proofs.request_refusal.Statement.{statement}
-use Rattle.request_tests.proofs.request_refusal.Tie as tie
+use Rattle.request_calls.proofs.request_refusal.Statement.{statement}
+use Rattle.request_calls.proofs.request_refusal.Tie as tie
 
 none-pending-requires : tie.Need-none-pending-requires
 none-pending-requires c κs = c .before .before .before .pre

@@ -1,4 +1,4 @@
--- `request_tests::none_pending` meets its contract. Assumes nothing.
+-- `request_calls::none_pending` meets its contract. Assumes nothing.
 use mathlib.Core.Path.{_≡_, refl, sym, _∙_}
 use Prim.Native.Nat.{ℕ, _*_, _<_, _-_}
 use native.Mathlib.Omega.{arith}
@@ -9,10 +9,10 @@ use mathlib.Core.Bool.{true, false}
 use Rattle.model.specs.Layout.{window-of}
 use Rattle.model.specs.Records.{found, is-there}
 use Rattle.model.specs.declared.Hash.{Hash}
-use Rattle.request_tests.specs.Listed.{none-pending, seen, pending-one, pending-not, pending-none}
+use Rattle.request_calls.specs.Listed.{none-pending, seen, pending-one, pending-not, pending-none}
 use borrow.Author.Needs.{needs}
-use Rattle.request_tests.proofs.none_pending.Statement.{statement}
-use Rattle.request_tests.proofs.none_pending.Tie as tie
+use Rattle.request_calls.proofs.none_pending.Statement.{statement}
+use Rattle.request_calls.proofs.none_pending.Tie as tie
 
 abbrev Inv-loop : tie.InvT-loop
 Inv-loop words hashes heights n i₀ i = none-pending (asks-in hashes heights) (window-of words .queue .pending) ≡ none-pending (drop i (asks-in hashes heights)) (window-of words .queue .pending)
