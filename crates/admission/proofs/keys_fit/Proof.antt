@@ -31,7 +31,7 @@ shared-slice-read-if2 c = search needs
 returns-2 : tie.Need-returns-2 Inv-loop μ-loop
 returns-2 c =
     let l = c .before .before .before .loop in
-    keys-wrong (c .before .before .before .before .before .args .keys .now) (c .before .before .before .before .if1 .left) (l .i) (l .inv .1) (c .before .before .loop-test .taken) (c .if2 .taken)
+    keys-wrong (c .before .before .before .before .before .args .keys .now) (c .before .before .before .before .if1 .left) (l .i) (l .inv .1) (omega (arith, c .before .before .loop-test .taken)) (omega (arith, c .if2 .taken))
 
 add-i : tie.Need-add-i Inv-loop μ-loop
 add-i c = search needs
@@ -42,7 +42,7 @@ loop-less c = search needs
 loop-again : tie.Need-loop-again Inv-loop μ-loop
 loop-again c =
     let l = c .before .before .before .loop in
-    (search needs, keys-next (c .before .before .before .before .before .args .keys .now) (c .before .before .before .before .if1 .left) (l .i) (l .inv .1) (c .before .before .loop-test .taken) (c .if2 .left))
+    (search needs, keys-next (c .before .before .before .before .before .args .keys .now) (c .before .before .before .before .if1 .left) (l .i) (l .inv .1) (omega (arith, c .before .before .loop-test .taken)) (omega (arith, c .if2 .left)))
 
 returns-3 : tie.Need-returns-3 Inv-loop μ-loop
 returns-3 c =

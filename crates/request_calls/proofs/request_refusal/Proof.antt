@@ -50,7 +50,7 @@ returns-3 c =
     let o = c .before .before .before .before .listed-once in
     let k = c .before .before .asked .ensures ∙ sym (asks-length (a .hashes .now) (a .heights .now)) in
     list-many l w (sym (p .ensures) ∙ not-false (p .result) (c .before .before .before .before .before .if1 .left)) (sym (o .ensures) ∙ not-false (o .result) (c .before .before .before .if2 .left))
-    (c .before .pending-count .result) (c .before .before .asked .result) (c .before .pending-count .ensures .0) k (c .if3 .taken)
+    (c .before .pending-count .result) (c .before .before .asked .result) (c .before .pending-count .ensures .0) k (omega (arith, c .if3 .taken))
 
 returns-4 : tie.Need-returns-4
 returns-4 c =
@@ -61,7 +61,7 @@ returns-4 c =
     let o = c .before .before .before .before .listed-once in
     let k = c .before .before .asked .ensures ∙ sym (asks-length (a .hashes .now) (a .heights .now)) in
     list-good l w (sym (p .ensures) ∙ not-false (p .result) (c .before .before .before .before .before .if1 .left)) (sym (o .ensures) ∙ not-false (o .result) (c .before .before .before .if2 .left))
-    (c .before .pending-count .result) (c .before .before .asked .result) (c .before .pending-count .ensures .0) k (c .before .pending-count .ensures .1) (c .if3 .left)
+    (c .before .pending-count .result) (c .before .before .asked .result) (c .before .pending-count .ensures .0) k (c .before .pending-count .ensures .1) (omega (arith, c .if3 .left))
 
 pub request-refusal-spec : {M : Type 1} → statement M
 request-refusal-spec =
