@@ -2,11 +2,15 @@
 ghost use mathlib.Core.Path.{_≡_};
 ghost use mathlib.Core.List.{[]};
 ghost use Rattle.model.specs.Refusals.{changes, clears-preferred, credits-duplicate, sets-fanout, marks-unresponsive, fetches};
+ghost use Rattle.model.specs.Refusals.{opens, requests};
 ghost use Rattle.model.specs.Perform.{perform};
 ghost use Rattle.model.specs.Says.{accepted-says, fetch-says};
+ghost use Rattle.model.specs.Says.{requested-says};
 use model::Accepted;
 use model::Fetch;
 use model::Hash;
+use model::Requested;
+use model::Settings;
 
 pub fn clear_preferred_peer(words: &mut [u64]) -> Accepted
     ensures { λ r. ⌜
@@ -97,4 +101,55 @@ pub fn mark_owned_fetch(
     );
     state::set_clock(words, clock);
     r
+}
+
+// ---- the opening and the request
+
+pub fn open(words: &mut [u64], settings: Settings, keys: &[u64], clock: u64) -> Accepted
+    ensures { λ r. ⌜
+        (accepted-says r ≡ perform (opens clock settings (now (keys .entry))) (now (words .entry)) [] .answer)
+        × (now (words .exit) ≡ perform (opens clock settings (now (keys .entry))) (now (words .entry)) [] .words)
+        ⌝ }
+{
+    let n = admission::admits_opening(words, clock, settings, keys);
+    if n != 0 {
+        return Accepted::Refused(n);
+    }
+    opening::open(words, clock, settings, keys);
+    Accepted::Done
+}
+
+pub fn mark_requested(
+    words: &mut [u64],
+    owner: u64,
+    hashes: &[u64],
+    heights: &[u32],
+    next: u32,
+    byte_headroom: u64,
+    count_headroom: u64,
+    clock: u64,
+) -> Requested
+    ensures { λ r. ⌜
+        (requested-says r ≡ perform (changes (requests clock owner (now (hashes .entry)) (now (heights .entry)) next «byte_headroom» «count_headroom»)) (now (words .entry)) [] .answer)
+        × (now (words .exit) ≡ perform (changes (requests clock owner (now (hashes .entry)) (now (heights .entry)) next «byte_headroom» «count_headroom»)) (now (words .entry)) [] .words)
+        ⌝ }
+{
+    let k = admission::admits_at(words, clock, owner <= 255);
+    if k != 0 {
+        return Requested::Refused(k);
+    }
+    let n = request_calls::request_refusal(words, hashes, heights);
+    if n != 0 {
+        return Requested::Refused(n);
+    }
+    request_calls::request(
+        words,
+        owner,
+        hashes,
+        heights,
+        next,
+        byte_headroom,
+        count_headroom,
+        clock,
+    )
 }
