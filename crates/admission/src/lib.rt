@@ -1,7 +1,8 @@
 // What a call is refused by, before anything of the window is read for it: 01's numbers, the lowest first.
 ghost use mathlib.Core.Path.{_≡_};
 ghost use mathlib.Core.Bool.{true, false};
-ghost use Rattle.model.specs.Refusals.{at, timeless, checking, nothing, body-refusal, window-refusal};
+ghost use Rattle.model.specs.Refusals.{at, timeless, checking, nothing, body-refusal, source-ok, window-refusal};
+use model::Source;
 
 // What a call or query without a clock and without a report is refused by: 1, 2, 6, or 0 for none.
 pub fn admits(words: &[u64], peers: bool) -> u64
@@ -101,4 +102,14 @@ pub fn admits_body(words: &[u64], room: usize, clock: u64, peers: bool, bytes: u
         return 9;
     }
     0
+}
+
+// 6, for a source that may be missing.
+pub fn source_ok(source: Source) -> bool
+    ensures { λ r. ⌜ r ≡ source-ok source ⌝ }
+{
+    match source {
+        Source::Missing => true,
+        Source::From(s) => s <= 255,
+    }
 }
