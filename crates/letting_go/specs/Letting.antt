@@ -2,23 +2,24 @@
 use mathlib.Core.Path.{_≡_, refl, sym, ap, subst, _∙_}
 use mathlib.Core.Logic.{inl, inr}
 use mathlib.Core.Bool.{Bool, true, false, not, _||_}
-use mathlib.Core.List.{List, [], _∷_}
-use Prim.Native.Nat.{ℕ, zero, suc, _≤_, _<_}
+use mathlib.Core.List.{List, [], _∷_, _++_}
+use Prim.Native.Nat.{ℕ, zero, suc, _*_, _≤_, _<_}
 use native.Mathlib.Omega.{arith}
 use borrow.Author.Tests.{leb-true}
-use lib.ListN.{length}
+use lib.ListN.{length, drop}
 use lib.Dec.{ltb}
 use Rattle.model.specs.Numbers.{read-clock, present}
 use Rattle.model.specs.Window.{Window, with-clock, with-cold, with-preferred, with-attempted}
 use Rattle.model.specs.Layout.{encode, window-of}
 use Rattle.model.specs.Refusals.{Change, changes, Moment, timeless, at, checks, report-ok, window-refusal}
-use Rattle.model.specs.Perform.{Deed, Answer, refused, says, change, moment-of, changed, words-after, gone-after, answer-after}
+use Rattle.model.specs.Perform.{Answer, refused, says, change, moment-of, changed, words-after, gone-after, answer-after, perform}
 use Rattle.model.specs.Records.{found}
 use Rattle.model.specs.Seats.{keep-seats}
 use Rattle.model.specs.Lists.{count}
 use Rattle.model.specs.LettingGo.{take-out, remove-pending, extract, seats-kept, retain-peer-assignments, cold-kept, peer-kept, probe-kept, roles-kept, flagged, retain-owned-by}
 use Rattle.model.specs.Calls.{is-owner, rejected-by, reject-delivery}
 use Rattle.model.specs.declared.Hash.{Hash}
+use Rattle.model.specs.declared.Release.{Release}
 use Rattle.model.specs.declared.Source.{Source}
 use Rattle.model.specs.declared.Front.{Front}
 use Rattle.model.specs.declared.Front.the-variants.{Nothing, At}
@@ -26,7 +27,7 @@ use Rattle.model.specs.declared.Probe.{Probe}
 use Rattle.model.specs.declared.Probe.the-variants.{NoProbe, Probing}
 use Rattle.laws.specs.Numbers.{both}
 use Rattle.laws.specs.Whole.{Whole, Holds}
-use Rattle.refusals.specs.Outcomes.{leaves-refused, leaves-changed, admitted, clock-set}
+use Rattle.refusals.specs.Outcomes.{leaves-refused, leaves-changed, performs, admitted, clock-set}
 use Rattle.report_words.specs.Report.{releases-of, length-releases}
 
 -- how many places of the report an answer counts
@@ -122,3 +123,18 @@ retain-clock flags w =
     let owns = flagged flags in
     probe-clock owns (w .races .probe) (keep-seats owns 0 (w .races .racers))
     (with-attempted (peer-kept owns (w .races .attempted)) (with-preferred (peer-kept owns (w .races .preferred)) (with-cold (cold-kept owns (w .races .cold)) w)))
+
+-- ---- with the report: m releases are written in its first places
+
+module _ (x : Change) (ws : List ℕ) (xs : List Release) (a : Answer) (zs gs : List ℕ) (e : Lets x ws (length xs) a zs gs) (m : ℕ) (q : m ≡ places a) where
+  -- the writer has room, and words to read
+  pub lets-fewer : length gs ≡ 2304 → (m ≤ length xs) × (9 * m ≤ length gs)
+  lets-fewer l = (omega (arith, q, e .3), omega (arith, q, e .4, l))
+
+  pub lets-performs : (ys : List Release) → ys ≡ releases-of m gs ++ drop m xs
+      → (a ≡ perform (changes x) ws xs .answer) × (zs ≡ perform (changes x) ws xs .words) × (ys ≡ perform (changes x) ws xs .report)
+  lets-performs ys w =
+      let k = performs (changes x) ws xs a zs (releases-of (places a) gs) (e .0, e .1, e .2) in
+      let same : ys ≡ releases-of (places a) gs ++ drop (length (releases-of (places a) gs)) xs =
+      w ∙ ap (λ (j : ℕ). releases-of j gs ++ drop j xs) q ∙ ap (λ (j : ℕ). releases-of (places a) gs ++ drop j xs) (sym (length-releases (places a) gs)) in
+      (k .0, k .1, same ∙ k .2)
