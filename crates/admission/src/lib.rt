@@ -45,33 +45,7 @@ pub fn admits_at(words: &[u64], clock: u64, peers: bool) -> u64
 
 // ---- calls that let go
 
-// What a call that lets go, with a clock, is refused by before its content: 1, 2, 3, 4, 6, or 0 for none. `room` is the report's length.
-pub fn admits_report(words: &[u64], room: usize, clock: u64, peers: bool) -> u64
-    ensures { λ r. ⌜ r ≡ window-refusal (checking true (at clock) peers nothing) (now (words .entry)) room ⌝ }
-{
-    if words.len() != 4096 {
-        return 1;
-    }
-    if !check_window::is_window(words) {
-        return 2;
-    }
-    if room < 256 {
-        return 3;
-    }
-    if clock > 4611686018427387904 {
-        return 4;
-    }
-    let last = state::get_clock(words);
-    if clock < last {
-        return 4;
-    }
-    if !peers {
-        return 6;
-    }
-    0
-}
-
-// The same without a clock: 1, 2, 3, 6, or 0 for none.
+// What a call that lets go, without a clock, is refused by: 1, 2, 3, 6, or 0 for none. `room` is the report's length.
 pub fn admits_report_timeless(words: &[u64], room: usize, peers: bool) -> u64
     ensures { λ r. ⌜ r ≡ window-refusal (checking true timeless peers nothing) (now (words .entry)) room ⌝ }
 {
@@ -83,6 +57,27 @@ pub fn admits_report_timeless(words: &[u64], room: usize, peers: bool) -> u64
     }
     if room < 256 {
         return 3;
+    }
+    if !peers {
+        return 6;
+    }
+    0
+}
+
+// The same with a clock: 1, 2, 3, 4, 6, or 0 for none.
+pub fn admits_report(words: &[u64], room: usize, clock: u64, peers: bool) -> u64
+    ensures { λ r. ⌜ r ≡ window-refusal (checking true (at clock) peers nothing) (now (words .entry)) room ⌝ }
+{
+    let k = admits_report_timeless(words, room, true);
+    if k != 0 {
+        return k;
+    }
+    if clock > 4611686018427387904 {
+        return 4;
+    }
+    let accepted = state::get_clock(words);
+    if clock < accepted {
+        return 4;
     }
     if !peers {
         return 6;

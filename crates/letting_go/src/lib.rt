@@ -1,19 +1,33 @@
 // The calls that let go, with their refusals, in lent words. What went is written, nine words each, in `gone`: the public call writes the lent report
 // from it. `room` is that report's length.
 ghost use mathlib.Core.Path.{_≡_};
+ghost use mathlib.Core.List.{[]};
 ghost use Prim.Native.Nat.{_≤_};
 ghost use lib.ListN.{length};
 ghost use Rattle.model.specs.Refusals.{changes, releases, requeues, rejects, expires, retires, retains};
-ghost use Rattle.model.specs.Perform.{answer-after, words-after, gone-after};
-ghost use Rattle.model.specs.Says.{let-go-says, rejected-says};
+ghost use Rattle.model.specs.Perform.{says, answer-after, words-after, gone-after};
+ghost use Rattle.model.specs.Says.{let-go-says, rejected-says, received-says};
+ghost use Rattle.model.specs.Window.{with-clock};
+ghost use Rattle.model.specs.Layout.{window-of};
+ghost use Rattle.laws.specs.Whole.{Whole, Holds};
 ghost use Rattle.report_words.specs.Report.{releases-of};
 ghost use Rattle.heights.specs.Heights.{wide};
 ghost use Rattle.letting_go.specs.Letting.{places};
 use heights::Height32;
 use model::Hash;
 use model::LetGo;
+use model::Received;
 use model::Rejected;
 use model::Source;
+
+// The last clock is set last, and the answer counts what went.
+fn gone_at(words: &mut [u64], n: usize, moment: u64) -> LetGo
+    requires { ⌜ Whole (now words) ⌝ }
+    ensures { λ r. ⌜ (let-go-says r ≡ says n []) × Holds (with-clock moment (window-of (now (words .entry)))) (now (words .exit)) ⌝ }
+{
+    state::set_clock(words, moment);
+    LetGo::Gone(n as u64)
+}
 
 // `releases`
 pub fn release_pending(
@@ -37,8 +51,7 @@ pub fn release_pending(
         return LetGo::Refused(k);
     }
     let n = release::release_pending(words, gone, h, clock);
-    state::set_clock(words, clock);
-    LetGo::Gone(n as u64)
+    gone_at(words, n, clock)
 }
 
 // `requeues`
@@ -65,8 +78,7 @@ pub fn requeue_for_retry(
     }
     let height = heights::widened(named);
     let n = release::requeue_for_retry(words, gone, h, height, clock);
-    state::set_clock(words, clock);
-    LetGo::Gone(n as u64)
+    gone_at(words, n, clock)
 }
 
 // `rejects`
@@ -113,8 +125,7 @@ pub fn expire_pending(words: &mut [u64], room: usize, gone: &mut [u64], clock: u
         return LetGo::Refused(k);
     }
     let n = sweep::expire_pending(words, gone, clock);
-    state::set_clock(words, clock);
-    LetGo::Gone(n as u64)
+    gone_at(words, n, clock)
 }
 
 // `retires`
@@ -139,8 +150,7 @@ pub fn retire_before(
         return LetGo::Refused(k);
     }
     let n = sweep::retire_before(words, gone, height as u64, clock);
-    state::set_clock(words, clock);
-    LetGo::Gone(n as u64)
+    gone_at(words, n, clock)
 }
 
 // `retains`: it takes no clock, and leaves the last one
@@ -180,5 +190,15 @@ pub fn places_of_rejected(r: Rejected) -> usize
         Rejected::Refused(_) => 0,
         Rejected::ReleasedPending(n) => n as usize,
         Rejected::DiscardedUnsolicited => 0,
+    }
+}
+
+pub fn places_of_received(r: Received) -> usize
+    ensures { λ n. ⌜ n ≡ places (received-says r) ⌝ }
+{
+    match r {
+        Received::Refused(_) => 0,
+        Received::Unasked(n) => n as usize,
+        Received::Expected(n, _) => n as usize,
     }
 }
