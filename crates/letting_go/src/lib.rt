@@ -4,7 +4,7 @@ ghost use mathlib.Core.Path.{_≡_};
 ghost use mathlib.Core.List.{[]};
 ghost use Prim.Native.Nat.{_≤_};
 ghost use lib.ListN.{length};
-ghost use Rattle.model.specs.Refusals.{changes, releases, requeues, rejects, expires, retires, retains};
+ghost use Rattle.model.specs.Refusals.{changes, releases, requeues, rejects, expires, retires, retains, credits, receives};
 ghost use Rattle.model.specs.Perform.{says, answer-after, words-after, gone-after};
 ghost use Rattle.model.specs.Says.{let-go-says, rejected-says, received-says};
 ghost use Rattle.model.specs.Window.{with-clock};
@@ -168,8 +168,67 @@ pub fn retain_owned_by(words: &mut [u64], room: usize, gone: &mut [u64], flags: 
     if k != 0 {
         return LetGo::Refused(k);
     }
-    let n = retain::retain_owned_by(words, gone, flags);
-    LetGo::Gone(n as u64)
+    let lost = retain::retain_owned_by(words, gone, flags);
+    LetGo::Gone(lost as u64)
+}
+
+// ---- deliveries
+
+// `credits`
+pub fn credit_delivery_from(
+    words: &mut [u64],
+    room: usize,
+    gone: &mut [u64],
+    h: Hash,
+    source: u64,
+    height: Height32,
+    clock: u64,
+) -> LetGo
+    requires { ⌜ length (now gone) ≡ 2304 ⌝ }
+    ensures { λ r. ⌜
+        (let-go-says r ≡ answer-after (changes (credits clock h source (wide height))) (now (words .entry)) room)
+        × (now (words .exit) ≡ words-after (changes (credits clock h source (wide height))) (now (words .entry)) room)
+        × (releases-of (places (let-go-says r)) (now (gone .exit)) ≡ gone-after (changes (credits clock h source (wide height))) (now (words .entry)) room)
+        × (places (let-go-says r) ≤ room)
+        × (places (let-go-says r) ≤ 256)
+        ⌝ }
+{
+    let k = admission::admits_report(words, room, clock, source <= 255);
+    if k != 0 {
+        return LetGo::Refused(k);
+    }
+    let pending = heights::widened(height);
+    let n = delivery_calls::credit_delivery_from(words, gone, h, source, pending, clock);
+    gone_at(words, n, clock)
+}
+
+// `receives`
+pub fn mark_received_from(
+    words: &mut [u64],
+    room: usize,
+    gone: &mut [u64],
+    h: Hash,
+    bytes: u64,
+    source: Source,
+    clock: u64,
+) -> Received
+    requires { ⌜ length (now gone) ≡ 2304 ⌝ }
+    ensures { λ r. ⌜
+        (received-says r ≡ answer-after (changes (receives clock h bytes source)) (now (words .entry)) room)
+        × (now (words .exit) ≡ words-after (changes (receives clock h bytes source)) (now (words .entry)) room)
+        × (releases-of (places (received-says r)) (now (gone .exit)) ≡ gone-after (changes (receives clock h bytes source)) (now (words .entry)) room)
+        × (places (received-says r) ≤ room)
+        × (places (received-says r) ≤ 256)
+        ⌝ }
+{
+    let p = admission::source_ok(source);
+    let k = admission::admits_body(words, room, clock, p, bytes);
+    if k != 0 {
+        return Received::Refused(k);
+    }
+    let r = delivery_calls::mark_received_from(words, gone, h, bytes, source, clock);
+    state::set_clock(words, clock);
+    r
 }
 
 // ---- how many places of the report an answer counts

@@ -1,17 +1,18 @@
 // THE PUBLIC CRATE: every call with its refusals, on the lent words. No function has a `requires`.
 ghost use mathlib.Core.Path.{_≡_};
 ghost use mathlib.Core.List.{[]};
-ghost use Rattle.model.specs.Refusals.{releases, requeues, rejects, expires, retires, retains};
+ghost use Rattle.model.specs.Refusals.{releases, requeues, rejects, expires, retires, retains, credits, receives};
 ghost use Rattle.model.specs.Refusals.{changes, clears-preferred, credits-duplicate, sets-fanout, marks-unresponsive, fetches};
 ghost use Rattle.model.specs.Perform.{perform};
 ghost use Rattle.model.specs.Says.{accepted-says, fetch-says};
-ghost use Rattle.model.specs.Says.{let-go-says, rejected-says};
+ghost use Rattle.model.specs.Says.{let-go-says, rejected-says, received-says};
 ghost use Rattle.heights.specs.Heights.{wide};
 use heights::Height32;
 use model::Accepted;
 use model::Fetch;
 use model::Hash;
 use model::LetGo;
+use model::Received;
 use model::Rejected;
 use model::Release;
 use model::Source;
@@ -202,6 +203,56 @@ pub fn retain_owned_by(words: &mut [u64], report: &mut [Release], flags: &[u64])
     let mut gone: [u64; 2304] = [0; 2304];
     let r = letting_go::retain_owned_by(words, report.len(), &mut gone, flags);
     let n = letting_go::places_of(r);
+    let m = write_report(report, &gone, n);
+    r
+}
+
+pub fn credit_delivery_from(
+    words: &mut [u64],
+    report: &mut [Release],
+    h: Hash,
+    source: u64,
+    height: Height32,
+    clock: u64,
+) -> LetGo
+    ensures { λ r. ⌜
+        (let-go-says r ≡ perform (changes (credits clock h source (wide height))) (now (words .entry)) (now (report .entry)) .answer)
+        × (now (words .exit) ≡ perform (changes (credits clock h source (wide height))) (now (words .entry)) (now (report .entry)) .words)
+        × (now (report .exit) ≡ perform (changes (credits clock h source (wide height))) (now (words .entry)) (now (report .entry)) .report)
+        ⌝ }
+{
+    let mut gone: [u64; 2304] = [0; 2304];
+    let r = letting_go::credit_delivery_from(
+        words,
+        report.len(),
+        &mut gone,
+        h,
+        source,
+        height,
+        clock,
+    );
+    let n = letting_go::places_of(r);
+    let m = write_report(report, &gone, n);
+    r
+}
+
+pub fn mark_received_from(
+    words: &mut [u64],
+    report: &mut [Release],
+    h: Hash,
+    bytes: u64,
+    source: Source,
+    clock: u64,
+) -> Received
+    ensures { λ r. ⌜
+        (received-says r ≡ perform (changes (receives clock h bytes source)) (now (words .entry)) (now (report .entry)) .answer)
+        × (now (words .exit) ≡ perform (changes (receives clock h bytes source)) (now (words .entry)) (now (report .entry)) .words)
+        × (now (report .exit) ≡ perform (changes (receives clock h bytes source)) (now (words .entry)) (now (report .entry)) .report)
+        ⌝ }
+{
+    let mut gone: [u64; 2304] = [0; 2304];
+    let r = letting_go::mark_received_from(words, report.len(), &mut gone, h, bytes, source, clock);
+    let n = letting_go::places_of_received(r);
     let m = write_report(report, &gone, n);
     r
 }
