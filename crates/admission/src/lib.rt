@@ -2,8 +2,9 @@
 ghost use mathlib.Core.Path.{_≡_};
 ghost use mathlib.Core.Bool.{true, false};
 ghost use Rattle.model.specs.Layout.{settings-ok};
-ghost use Rattle.model.specs.Refusals.{at, timeless, checking, nothing, keys-ok, window-refusal, opening-refusal};
+ghost use Rattle.model.specs.Refusals.{at, timeless, checking, nothing, keys-ok, window-refusal, opening-refusal, body-refusal, source-ok};
 use model::Settings;
+use model::Source;
 
 // What a call or query without a clock and without a report is refused by: 1, 2, 6, or 0 for none.
 pub fn admits(words: &[u64], peers: bool) -> u64
@@ -98,4 +99,70 @@ pub fn admits_opening(words: &[u64], clock: u64, b: Settings, keys: &[u64]) -> u
         return 6;
     }
     0
+}
+
+// ---- calls that let go
+
+// What a call that lets go, without a clock, is refused by: 1, 2, 3, 6, or 0 for none. `room` is the report's length.
+pub fn admits_report_timeless(words: &[u64], room: usize, peers: bool) -> u64
+    ensures { λ r. ⌜ r ≡ window-refusal (checking true timeless peers nothing) (now (words .entry)) room ⌝ }
+{
+    if words.len() != 4096 {
+        return 1;
+    }
+    if !check_window::is_window(words) {
+        return 2;
+    }
+    if room < 256 {
+        return 3;
+    }
+    if !peers {
+        return 6;
+    }
+    0
+}
+
+// The same with a clock: 1, 2, 3, 4, 6, or 0 for none.
+pub fn admits_report(words: &[u64], room: usize, clock: u64, peers: bool) -> u64
+    ensures { λ r. ⌜ r ≡ window-refusal (checking true (at clock) peers nothing) (now (words .entry)) room ⌝ }
+{
+    let k = admits_report_timeless(words, room, true);
+    if k != 0 {
+        return k;
+    }
+    if clock > 4611686018427387904 {
+        return 4;
+    }
+    let accepted = state::get_clock(words);
+    if clock < accepted {
+        return 4;
+    }
+    if !peers {
+        return 6;
+    }
+    0
+}
+
+// The same with a clock and a body: 1, 2, 3, 4, 6, 9, or 0 for none.
+pub fn admits_body(words: &[u64], room: usize, clock: u64, peers: bool, bytes: u64) -> u64
+    ensures { λ r. ⌜ r ≡ window-refusal (checking true (at clock) peers (body-refusal bytes)) (now (words .entry)) room ⌝ }
+{
+    let n = admits_report(words, room, clock, peers);
+    if n != 0 {
+        return n;
+    }
+    if bytes > 4294967295 {
+        return 9;
+    }
+    0
+}
+
+// 6, for a source that may be missing.
+pub fn source_ok(source: Source) -> bool
+    ensures { λ r. ⌜ r ≡ source-ok source ⌝ }
+{
+    match source {
+        Source::Missing => true,
+        Source::From(s) => s <= 255,
+    }
 }
