@@ -1,11 +1,11 @@
 -- What a query's answer says, and a seat's range. Assumes nothing.
-use mathlib.Core.Path.{_≡_}
+use mathlib.Core.Path.{_≡_, refl, ap}
 use mathlib.Core.Bool.{Bool, true}
 use mathlib.Core.List.{[], _∷_}
-use Prim.Native.Nat.{ℕ, _<_}
+use Prim.Native.Nat.{ℕ, zero, suc, _<_, _-_}
 use native.Mathlib.Omega.{arith}
 use lib.Dec.{leb}
-use Rattle.model.specs.Queries.{flag}
+use Rattle.model.specs.Queries.{flag, perhaps}
 use Rattle.model.specs.Perform.{Answer, says}
 use Rattle.laws.specs.Kept.{seat-le}
 
@@ -21,3 +21,10 @@ truth t = says 0 (flag t)
 
 abbrev pub pair : ℕ → ℕ → Answer
 pair x y = says 0 (x ∷ y ∷ [])
+
+-- a stored number stands one higher
+pub stored : (x : ℕ) → (x ≡ 0 → ⊥) → number (x - 1) ≡ says 0 (perhaps x)
+stored zero h = absurd (h refl)
+stored (suc n) h =
+    let e : suc n - 1 ≡ n = omega arith in
+    ap number e
