@@ -4,9 +4,16 @@ ghost use mathlib.Core.List.{[]};
 ghost use Rattle.model.specs.Refusals.{changes, clears-preferred, credits-duplicate, sets-fanout, marks-unresponsive, fetches};
 ghost use Rattle.model.specs.Perform.{perform};
 ghost use Rattle.model.specs.Says.{accepted-says, fetch-says};
+ghost use Rattle.model.specs.Refusals.{confirms-hedge, observes};
+ghost use Rattle.model.specs.Says.{blocked-says};
+ghost use Rattle.heights.specs.Heights.{wide};
+ghost use Rattle.observation.specs.Look.{look};
+use heights::Height32;
 use model::Accepted;
+use model::Blocked;
 use model::Fetch;
 use model::Hash;
+use model::Sought;
 
 pub fn clear_preferred_peer(words: &mut [u64]) -> Accepted
     ensures { λ r. ⌜
@@ -95,6 +102,47 @@ pub fn mark_owned_fetch(
         count_headroom,
         clock,
     );
+    state::set_clock(words, clock);
+    r
+}
+
+// ---- the hedge, the look and the probe
+
+pub fn confirm_cold_front_hedge(words: &mut [u64], owner: u64, alternate: u64, h: Hash) -> Accepted
+    ensures { λ r. ⌜
+        (accepted-says r ≡ perform (changes (confirms-hedge owner alternate h)) (now (words .entry)) [] .answer)
+        × (now (words .exit) ≡ perform (changes (confirms-hedge owner alternate h)) (now (words .entry)) [] .words)
+        ⌝ }
+{
+    let n = admission::admits(words, (owner <= 255) & (alternate <= 255));
+    if n != 0 {
+        return Accepted::Refused(n);
+    }
+    cold_front::confirm_cold_front_hedge(words, owner, alternate, h);
+    Accepted::Done
+}
+
+pub fn observe_blocked(
+    words: &mut [u64],
+    next: Height32,
+    frontier: Sought,
+    busy: bool,
+    staged: u64,
+    highest: Height32,
+    clock: u64,
+) -> Blocked
+    ensures { λ r. ⌜
+        (blocked-says r ≡ perform (changes (observes clock (look (wide next) frontier busy staged (wide highest)))) (now (words .entry)) [] .answer)
+        × (now (words .exit) ≡ perform (changes (observes clock (look (wide next) frontier busy staged (wide highest)))) (now (words .entry)) [] .words)
+        ⌝ }
+{
+    let k = admission::admits_at(words, clock, true);
+    if k != 0 {
+        return Blocked::Refused(k);
+    }
+    let at = heights::widened(next);
+    let top = heights::widened(highest);
+    let r = observation::observe_blocked(words, at, frontier, busy, staged, top, clock);
     state::set_clock(words, clock);
     r
 }
