@@ -2,6 +2,7 @@
 ghost use mathlib.Core.Path.{_≡_};
 ghost use mathlib.Core.Bool.{true, false};
 ghost use Rattle.model.specs.Refusals.{at, timeless, checking, nothing, window-refusal};
+ghost use Rattle.model.specs.Refusals.{alternates-ok};
 
 // What a call or query without a clock and without a report is refused by: 1, 2, 6, or 0 for none.
 pub fn admits(words: &[u64], peers: bool) -> u64
@@ -40,4 +41,23 @@ pub fn admits_at(words: &[u64], clock: u64, peers: bool) -> u64
         return 6;
     }
     0
+}
+
+// ---- the alternates of a probe
+
+// At most 256, each at most 255.
+pub fn alternates_ok(alternates: &[u64]) -> bool
+    ensures { λ r. ⌜ r ≡ alternates-ok (now (alternates .entry)) ⌝ }
+{
+    if alternates.len() > 256 {
+        return false;
+    }
+    let mut i = 0;
+    while i < alternates.len() {
+        if alternates[i] > 255 {
+            return false;
+        }
+        i += 1;
+    }
+    true
 }
