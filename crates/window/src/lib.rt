@@ -4,7 +4,7 @@ ghost use mathlib.Core.List.{[]};
 ghost use Rattle.model.specs.Refusals.{changes, clears-preferred, credits-duplicate, sets-fanout, marks-unresponsive, fetches};
 ghost use Rattle.model.specs.Perform.{perform};
 ghost use Rattle.model.specs.Says.{accepted-says, fetch-says};
-ghost use Rattle.model.specs.Refusals.{confirms-hedge, observes};
+ghost use Rattle.model.specs.Refusals.{confirms-hedge, confirms-probe, observes};
 ghost use Rattle.model.specs.Says.{blocked-says};
 ghost use Rattle.heights.specs.Heights.{wide};
 ghost use Rattle.observation.specs.Look.{look};
@@ -145,4 +145,26 @@ pub fn observe_blocked(
     let r = observation::observe_blocked(words, at, frontier, busy, staged, top, clock);
     state::set_clock(words, clock);
     r
+}
+
+pub fn confirm_prefix_probe(
+    words: &mut [u64],
+    owner: u64,
+    given: &[u64],
+    alternates: &[u64],
+    clock: u64,
+) -> Accepted
+    ensures { λ r. ⌜
+        (accepted-says r ≡ perform (changes (confirms-probe clock owner (now (given .entry)) (now (alternates .entry)))) (now (words .entry)) [] .answer)
+        × (now (words .exit) ≡ perform (changes (confirms-probe clock owner (now (given .entry)) (now (alternates .entry)))) (now (words .entry)) [] .words)
+        ⌝ }
+{
+    let seats = admission::alternates_ok(alternates);
+    let n = admission::admits_at(words, clock, (owner <= 255) & seats);
+    if n != 0 {
+        return Accepted::Refused(n);
+    }
+    probe_confirm::confirm_prefix_probe(words, owner, given, alternates, clock);
+    state::set_clock(words, clock);
+    Accepted::Done
 }

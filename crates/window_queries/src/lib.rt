@@ -2,16 +2,20 @@
 ghost use mathlib.Core.Path.{_≡_};
 ghost use mathlib.Core.List.{[]};
 ghost use Rattle.model.specs.Refusals.{queries};
-ghost use Rattle.model.specs.Queries.{reads, perhaps, source-values, probe-values, capacity-values, preferred-peer, probe-start, front-interval-ewma-ms, asks-owner, asks-queue-start, asks-compute-capacity, asks-probe-offered, pending-len, pending-bytes, asks-expired-capacity, stall-timeout, max-pending-blocks, min-peers-for-fanout, fanout-active, pending-high-water, stalling-peer, peer-inflight, active-peers, decay-floor, request-cursor, ewma-block-bytes, asks-request-capacity, asks-contains, asks-count-for, asks-downloading, owner-timeout, asks-hedge-offered, asks-has-expired, asks-cooldown};
+ghost use Rattle.model.specs.Queries.{reads, perhaps, source-values, probe-values, capacity-values, preferred-peer, probe-plan, probe-start, front-interval-ewma-ms, asks-owner, asks-queue-start, asks-compute-capacity, asks-probe-offered, pending-len, pending-bytes, asks-expired-capacity, stall-timeout, max-pending-blocks, min-peers-for-fanout, fanout-active, pending-high-water, stalling-peer, peer-inflight, active-peers, decay-floor, request-cursor, ewma-block-bytes, asks-request-capacity, asks-contains, asks-count-for, asks-downloading, owner-timeout, asks-hedge-offered, asks-has-expired, asks-cooldown};
 ghost use Rattle.model.specs.Perform.{says, perform};
-ghost use Rattle.model.specs.Says.{number-says, pair-says, perhaps-says, perhaps-pair-says, truth-says};
+ghost use Rattle.model.specs.Says.{number-says, pair-says, perhaps-says, perhaps-pair-says, plan-says, truth-says};
+ghost use Rattle.model.specs.Lists.{pad};
 ghost use Rattle.capacity.specs.OnNumbers.{batch-says};
+ghost use Rattle.plans.specs.Rows.{rows-words};
+ghost use Rattle.window_queries.specs.Plan.{hash-part};
 use capacity::Batch;
 use model::Hash;
 use model::Number;
 use model::Pair;
 use model::Perhaps;
 use model::PerhapsPair;
+use model::Plan;
 use model::Probe;
 use model::Source;
 use model::Truth;
@@ -423,4 +427,28 @@ pub fn probe_offered(words: &[u64], source: u64, h: Hash) -> Truth
         return Truth::Affirmed;
     }
     Truth::Denied
+}
+
+// ---- the plan of a prefix probe: its three numbers, and its hashes
+
+pub fn prefix_probe_plan(words: &[u64]) -> Plan
+    ensures { λ r. ⌜ plan-says r (hash-part (perform (queries (reads probe-plan)) (now (words .entry)) [] .answer)) ≡ perform (queries (reads probe-plan)) (now (words .entry)) [] .answer ⌝ }
+{
+    let n = admission::admits(words, true);
+    if n != 0 {
+        return Plan::Refused(n);
+    }
+    probe_plan::prefix_probe_plan(words)
+}
+
+// The planned hashes in the first rows, and 0 in the others; where the other refuses or has no plan, in all. `plan-whole` says that the two
+// together are the answer.
+pub fn prefix_probe_hashes(words: &[u64]) -> [[u64; 4]; 8]
+    ensures { λ r. ⌜ rows-words 8 r ≡ pad 32 0 (hash-part (perform (queries (reads probe-plan)) (now (words .entry)) [] .answer)) ⌝ }
+{
+    let n = admission::admits(words, true);
+    if n != 0 {
+        return [[0; 4]; 8];
+    }
+    probe_hashes::prefix_probe_hashes(words)
 }
