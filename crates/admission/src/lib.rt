@@ -2,7 +2,7 @@
 ghost use mathlib.Core.Path.{_≡_};
 ghost use mathlib.Core.Bool.{true, false};
 ghost use Rattle.model.specs.Layout.{settings-ok};
-ghost use Rattle.model.specs.Refusals.{at, timeless, checking, nothing, keys-ok, window-refusal, opening-refusal, body-refusal, source-ok};
+ghost use Rattle.model.specs.Refusals.{at, timeless, checking, nothing, keys-ok, window-refusal, opening-refusal, body-refusal, source-ok, alternates-ok};
 use model::Settings;
 use model::Source;
 
@@ -165,4 +165,23 @@ pub fn source_ok(source: Source) -> bool
         Source::Missing => true,
         Source::From(s) => s <= 255,
     }
+}
+
+// ---- the alternates of a probe
+
+// At most 256, each at most 255.
+pub fn alternates_ok(alternates: &[u64]) -> bool
+    ensures { λ r. ⌜ r ≡ alternates-ok (now (alternates .entry)) ⌝ }
+{
+    if alternates.len() > 256 {
+        return false;
+    }
+    let mut i = 0;
+    while i < alternates.len() {
+        if alternates[i] > 255 {
+            return false;
+        }
+        i += 1;
+    }
+    true
 }
