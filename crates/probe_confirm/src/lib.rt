@@ -45,13 +45,14 @@ fn given_hashes(given: &[u64], n: usize) -> [[u64; 4]; 8]
     rows
 }
 
+// `same` of two rows.
 fn same_row(a: [u64; 4], b: [u64; 4]) -> bool
     ensures { λ r. ⌜ r ≡ same (row-hash a) (row-hash b) ⌝ }
 {
     hash::equal_words(a[0], a[1], a[2], a[3], b[0], b[1], b[2], b[3])
 }
 
-// `same-hashes` of all eight.
+// `same-hashes` of all eight rows; an array has no `==`.
 fn same_rows(a: [[u64; 4]; 8], b: [[u64; 4]; 8]) -> bool
     ensures { λ r. ⌜ r ≡ same-hashes (rows-hashes 8 a) (rows-hashes 8 b) ⌝ }
 {

@@ -1,2 +1,4 @@
 pub mod Changes
+pub mod Opening
 pub mod Plain
+pub mod Requests

@@ -2,8 +2,10 @@
 ghost use mathlib.Core.Path.{_≡_};
 ghost use mathlib.Core.List.{[]};
 ghost use Rattle.model.specs.Refusals.{changes, clears-preferred, credits-duplicate, sets-fanout, marks-unresponsive, fetches};
+ghost use Rattle.model.specs.Refusals.{opens, requests};
 ghost use Rattle.model.specs.Perform.{perform};
 ghost use Rattle.model.specs.Says.{accepted-says, fetch-says};
+ghost use Rattle.model.specs.Says.{requested-says};
 ghost use Rattle.model.specs.Refusals.{confirms-hedge, confirms-probe, observes};
 ghost use Rattle.model.specs.Says.{blocked-says};
 ghost use Rattle.heights.specs.Heights.{wide};
@@ -13,6 +15,8 @@ use model::Accepted;
 use model::Blocked;
 use model::Fetch;
 use model::Hash;
+use model::Requested;
+use model::Settings;
 use model::Sought;
 
 pub fn clear_preferred_peer(words: &mut [u64]) -> Accepted
@@ -104,6 +108,57 @@ pub fn mark_owned_fetch(
     );
     state::set_clock(words, clock);
     r
+}
+
+// ---- the opening and the request
+
+pub fn open(words: &mut [u64], settings: Settings, keys: &[u64], clock: u64) -> Accepted
+    ensures { λ r. ⌜
+        (accepted-says r ≡ perform (opens clock settings (now (keys .entry))) (now (words .entry)) [] .answer)
+        × (now (words .exit) ≡ perform (opens clock settings (now (keys .entry))) (now (words .entry)) [] .words)
+        ⌝ }
+{
+    let n = admission::admits_opening(words, clock, settings, keys);
+    if n != 0 {
+        return Accepted::Refused(n);
+    }
+    opening::open(words, clock, settings, keys);
+    Accepted::Done
+}
+
+pub fn mark_requested(
+    words: &mut [u64],
+    owner: u64,
+    hashes: &[u64],
+    heights: &[u32],
+    next: u32,
+    byte_headroom: u64,
+    count_headroom: u64,
+    clock: u64,
+) -> Requested
+    ensures { λ r. ⌜
+        (requested-says r ≡ perform (changes (requests clock owner (now (hashes .entry)) (now (heights .entry)) next «byte_headroom» «count_headroom»)) (now (words .entry)) [] .answer)
+        × (now (words .exit) ≡ perform (changes (requests clock owner (now (hashes .entry)) (now (heights .entry)) next «byte_headroom» «count_headroom»)) (now (words .entry)) [] .words)
+        ⌝ }
+{
+    let k = admission::admits_at(words, clock, owner <= 255);
+    if k != 0 {
+        return Requested::Refused(k);
+    }
+    let n = request_calls::request_refusal(words, hashes, heights);
+    if n != 0 {
+        return Requested::Refused(n);
+    }
+    request_calls::request(
+        words,
+        owner,
+        hashes,
+        heights,
+        next,
+        byte_headroom,
+        count_headroom,
+        clock,
+    )
 }
 
 // ---- the hedge, the look and the probe

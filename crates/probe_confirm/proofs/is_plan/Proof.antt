@@ -17,10 +17,10 @@ mul-if1 : tie.Need-mul-if1
 mul-if1 c = omega (arith, c .before .pre .few)
 
 returns : tie.Need-returns
-returns c = rw (ne-eqb (length (c .before .before .args .given .now)) (4 * c .before .before .args .n) (c .if1 .taken))
+returns c = rw (ne-eqb (length (c .before .before .args .given .now)) (4 * c .before .before .args .n) (λ q. omega (arith, q, c .if1 .taken)))
 
 given-hashes-requires : tie.Need-given-hashes-requires
-given-hashes-requires c κs = (c .if1 .left, c .before .before .pre .few)
+given-hashes-requires c κs = (omega (arith, c .if1 .left), c .before .before .pre .few)
 
 same-rows-requires : tie.Need-same-rows-requires
 same-rows-requires c κs = search needs

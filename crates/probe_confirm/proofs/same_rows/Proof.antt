@@ -39,7 +39,7 @@ returns : tie.Need-returns Inv-loop μ-loop
 returns c =
     let l = c .before .before .before .before .before .loop in
     let s = c .before .before .before .before .before .before in
-    sym (l .inv .1 ∙ same-step (s .args .t1) (s .args .t2) (l .i) (c .before .before .before .before .loop-test .taken)
+    sym (l .inv .1 ∙ same-step (s .args .t1) (s .args .t2) (l .i) (omega (arith, c .before .before .before .before .loop-test .taken))
     ∙ ap (λ (q : Bool). q && same-from (s .args .t1) (s .args .t2) (l .i + 1)) (sym (c .before .same-row .ensures) ∙ not-true (c .before .same-row .result) (c .if1 .taken)))
 
 add-i : tie.Need-add-i Inv-loop μ-loop
@@ -53,12 +53,12 @@ loop-again c =
     let l = c .before .before .before .before .before .loop in
     let s = c .before .before .before .before .before .before in (
       omega (arith, c .before .before .before .before .loop-test .taken),
-      l .inv .1 ∙ same-step (s .args .t1) (s .args .t2) (l .i) (c .before .before .before .before .loop-test .taken)
+      l .inv .1 ∙ same-step (s .args .t1) (s .args .t2) (l .i) (omega (arith, c .before .before .before .before .loop-test .taken))
           ∙ ap (λ (q : Bool). q && same-from (s .args .t1) (s .args .t2) (l .i + 1)) (sym (c .before .same-row .ensures) ∙ not-false (c .before .same-row .result) (c .if1 .left)),
     )
 
 returns-2 : tie.Need-returns-2 Inv-loop μ-loop
-returns-2 c = sym (c .before .loop .inv .1 ∙ same-end (c .before .before .args .t1) (c .before .before .args .t2) (c .before .loop .i) (c .loop-test .left))
+returns-2 c = sym (c .before .loop .inv .1 ∙ same-end (c .before .before .args .t1) (c .before .before .args .t2) (c .before .loop .i) (omega (arith, c .loop-test .left)))
 
 pub same-rows-spec : {M : Type 1} → statement M
 same-rows-spec = tie.close (tie.spec Inv-loop μ-loop loop-holds mul-x array-copy-out-x mul-y array-copy-out-y same-row-requires returns add-i loop-less loop-again returns-2)
