@@ -1,6 +1,7 @@
 -- `delivery_calls::mark_received_from` meets its contract. Assumes nothing.
 use mathlib.Core.Path.{sym, subst}
 use Prim.Native.Nat.{_≤_}
+use native.Mathlib.Omega.{arith}
 use Rattle.model.specs.Numbers.{max-estimate}
 use Rattle.model.specs.Layout.{window-of}
 use Rattle.model.specs.Window.{Window}
@@ -25,7 +26,7 @@ move-mean-requires c κs =
     let s = c .before .before .before .before .before .before .before .before .before .before .before .before in
     let a = s .args in
     let k = c .before .before .before .before .before .take-delivered .ensures .0 in
-    (k .whole, (subst (λ (v : Window). v .mean ≤ max-estimate) (sym (k .is)) (taken-sound (a .h) (a .source) (a .clock) (window-of (a .words .now)) (s .pre .1 .0) .mean-most), s .pre .1 .1 .1 .0))
+    (k .whole, (subst (λ (v : Window). v .mean ≤ max-estimate) (sym (k .is)) (taken-sound (a .h) (a .source) (a .clock) (window-of (a .words .now)) (s .pre .1 .0) .mean-most), omega (arith, s .pre .1 .1 .1 .0)))
 
 received-requires : tie.Need-received-requires
 received-requires c κs = search needs
