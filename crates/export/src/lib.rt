@@ -1,0 +1,246 @@
+// THE WINDOW AS A STATIC LIBRARY: every call and query as a C function (API.md). What each answers and leaves is what the function of the same name
+// in `window` or `window_queries` promises; `flat` gives the answers the shape of C structs.
+ghost use mathlib.Core.Path.{_≡_};
+ghost use mathlib.Core.List.{[]};
+ghost use Rattle.model.specs.Refusals.{changes, queries, clears-preferred, credits-duplicate, sets-fanout, marks-unresponsive, fetches};
+ghost use Rattle.model.specs.Queries.{reads, pending-len, pending-bytes, asks-expired-capacity, stall-timeout, max-pending-blocks, min-peers-for-fanout, fanout-active, pending-high-water, stalling-peer, peer-inflight, active-peers, decay-floor, request-cursor, ewma-block-bytes, asks-request-capacity, asks-contains, asks-count-for, asks-downloading, owner-timeout, asks-hedge-offered, asks-has-expired, asks-cooldown};
+ghost use Rattle.model.specs.Perform.{perform};
+ghost use Rattle.flat.specs.Flat.{done-flat, number-flat, pair-flat, perhaps-pair-flat};
+use flat::FlatNumber;
+use flat::FlatPair;
+use flat::FlatPerhapsPair;
+use model::Hash;
+
+#[no_mangle]
+pub extern "C" fn kofudile_pending_len(words: &[u64]) -> FlatNumber
+    ensures { λ r. ⌜ r ≡ number-flat (perform (queries (reads pending-len)) (now (words .entry)) [] .answer) ⌝ }
+{
+    flat::of_number(window_queries::pending_len(words))
+}
+
+#[no_mangle]
+pub extern "C" fn kofudile_pending_bytes(words: &[u64]) -> FlatNumber
+    ensures { λ r. ⌜ r ≡ number-flat (perform (queries (reads pending-bytes)) (now (words .entry)) [] .answer) ⌝ }
+{
+    flat::of_number(window_queries::pending_bytes(words))
+}
+
+#[no_mangle]
+pub extern "C" fn kofudile_effective_peer_inflight(words: &[u64]) -> FlatNumber
+    ensures { λ r. ⌜ r ≡ number-flat (perform (queries (reads peer-inflight)) (now (words .entry)) [] .answer) ⌝ }
+{
+    flat::of_number(window_queries::effective_peer_inflight(words))
+}
+
+#[no_mangle]
+pub extern "C" fn kofudile_active_downloading_peers(words: &[u64]) -> FlatNumber
+    ensures { λ r. ⌜ r ≡ number-flat (perform (queries (reads active-peers)) (now (words .entry)) [] .answer) ⌝ }
+{
+    flat::of_number(window_queries::active_downloading_peers(words))
+}
+
+#[no_mangle]
+pub extern "C" fn kofudile_stall_decay_floor(words: &[u64]) -> FlatNumber
+    ensures { λ r. ⌜ r ≡ number-flat (perform (queries (reads decay-floor)) (now (words .entry)) [] .answer) ⌝ }
+{
+    flat::of_number(window_queries::stall_decay_floor(words))
+}
+
+#[no_mangle]
+pub extern "C" fn kofudile_request_cursor(words: &[u64]) -> FlatNumber
+    ensures { λ r. ⌜ r ≡ number-flat (perform (queries (reads request-cursor)) (now (words .entry)) [] .answer) ⌝ }
+{
+    flat::of_number(window_queries::request_cursor(words))
+}
+
+#[no_mangle]
+pub extern "C" fn kofudile_ewma_block_bytes(words: &[u64]) -> FlatNumber
+    ensures { λ r. ⌜ r ≡ number-flat (perform (queries (reads ewma-block-bytes)) (now (words .entry)) [] .answer) ⌝ }
+{
+    flat::of_number(window_queries::ewma_block_bytes(words))
+}
+
+#[no_mangle]
+pub extern "C" fn kofudile_effective_owner_timeout(words: &[u64]) -> FlatNumber
+    ensures { λ r. ⌜ r ≡ number-flat (perform (queries (reads owner-timeout)) (now (words .entry)) [] .answer) ⌝ }
+{
+    flat::of_number(window_queries::effective_owner_timeout(words))
+}
+
+#[no_mangle]
+pub extern "C" fn kofudile_stall_timeout(words: &[u64]) -> FlatNumber
+    ensures { λ r. ⌜ r ≡ number-flat (perform (queries (reads stall-timeout)) (now (words .entry)) [] .answer) ⌝ }
+{
+    flat::of_number(window_queries::stall_timeout(words))
+}
+
+#[no_mangle]
+pub extern "C" fn kofudile_max_pending_blocks(words: &[u64]) -> FlatNumber
+    ensures { λ r. ⌜ r ≡ number-flat (perform (queries (reads max-pending-blocks)) (now (words .entry)) [] .answer) ⌝ }
+{
+    flat::of_number(window_queries::max_pending_blocks(words))
+}
+
+#[no_mangle]
+pub extern "C" fn kofudile_min_peers_for_fanout(words: &[u64]) -> FlatNumber
+    ensures { λ r. ⌜ r ≡ number-flat (perform (queries (reads min-peers-for-fanout)) (now (words .entry)) [] .answer) ⌝ }
+{
+    flat::of_number(window_queries::min_peers_for_fanout(words))
+}
+
+#[no_mangle]
+pub extern "C" fn kofudile_fanout_active(words: &[u64]) -> FlatNumber
+    ensures { λ r. ⌜ r ≡ number-flat (perform (queries (reads fanout-active)) (now (words .entry)) [] .answer) ⌝ }
+{
+    flat::of_truth(window_queries::fanout_active(words))
+}
+
+#[no_mangle]
+pub extern "C" fn kofudile_has_request_capacity(
+    words: &[u64],
+    byte_headroom: u64,
+    count_headroom: u64,
+) -> FlatNumber
+    ensures { λ r. ⌜ r ≡ number-flat (perform (queries (asks-request-capacity «byte_headroom» «count_headroom»)) (now (words .entry)) [] .answer) ⌝ }
+{
+    flat::of_truth(window_queries::has_request_capacity(words, byte_headroom, count_headroom))
+}
+
+#[no_mangle]
+pub extern "C" fn kofudile_pending_count_for(words: &[u64], seat: u64) -> FlatNumber
+    ensures { λ r. ⌜ r ≡ number-flat (perform (queries (asks-count-for seat)) (now (words .entry)) [] .answer) ⌝ }
+{
+    flat::of_number(window_queries::pending_count_for(words, seat))
+}
+
+#[no_mangle]
+pub extern "C" fn kofudile_is_downloading(words: &[u64], seat: u64) -> FlatNumber
+    ensures { λ r. ⌜ r ≡ number-flat (perform (queries (asks-downloading seat)) (now (words .entry)) [] .answer) ⌝ }
+{
+    flat::of_truth(window_queries::is_downloading(words, seat))
+}
+
+#[no_mangle]
+pub extern "C" fn kofudile_contains_pending(words: &[u64], h: Hash) -> FlatNumber
+    ensures { λ r. ⌜ r ≡ number-flat (perform (queries (asks-contains h)) (now (words .entry)) [] .answer) ⌝ }
+{
+    flat::of_truth(window_queries::contains_pending(words, h))
+}
+
+#[no_mangle]
+pub extern "C" fn kofudile_hedge_offered(words: &[u64], seat: u64, h: Hash) -> FlatNumber
+    ensures { λ r. ⌜ r ≡ number-flat (perform (queries (asks-hedge-offered seat h)) (now (words .entry)) [] .answer) ⌝ }
+{
+    flat::of_truth(window_queries::hedge_offered(words, seat, h))
+}
+
+#[no_mangle]
+pub extern "C" fn kofudile_peer_has_expired_pending(
+    words: &[u64],
+    seat: u64,
+    clock: u64,
+) -> FlatNumber
+    ensures { λ r. ⌜ r ≡ number-flat (perform (queries (asks-has-expired seat clock)) (now (words .entry)) [] .answer) ⌝ }
+{
+    flat::of_truth(window_queries::peer_has_expired_pending(words, seat, clock))
+}
+
+#[no_mangle]
+pub extern "C" fn kofudile_peer_in_staller_cooldown(
+    words: &[u64],
+    seat: u64,
+    clock: u64,
+) -> FlatNumber
+    ensures { λ r. ⌜ r ≡ number-flat (perform (queries (asks-cooldown seat clock)) (now (words .entry)) [] .answer) ⌝ }
+{
+    flat::of_truth(window_queries::peer_in_staller_cooldown(words, seat, clock))
+}
+
+#[no_mangle]
+pub extern "C" fn kofudile_pending_high_water(words: &[u64]) -> FlatPair
+    ensures { λ r. ⌜ r ≡ pair-flat (perform (queries (reads pending-high-water)) (now (words .entry)) [] .answer) ⌝ }
+{
+    flat::of_pair(window_queries::pending_high_water(words))
+}
+
+#[no_mangle]
+pub extern "C" fn kofudile_expired_pending_capacity(words: &[u64], clock: u64) -> FlatPair
+    ensures { λ r. ⌜ r ≡ pair-flat (perform (queries (asks-expired-capacity clock)) (now (words .entry)) [] .answer) ⌝ }
+{
+    flat::of_pair(window_queries::expired_pending_capacity(words, clock))
+}
+
+#[no_mangle]
+pub extern "C" fn kofudile_stalling_peer(words: &[u64]) -> FlatPerhapsPair
+    ensures { λ r. ⌜ r ≡ perhaps-pair-flat (perform (queries (reads stalling-peer)) (now (words .entry)) [] .answer) ⌝ }
+{
+    flat::of_perhaps_pair(window_queries::stalling_peer(words))
+}
+
+#[no_mangle]
+pub extern "C" fn kofudile_credit_duplicate_delivery(words: &mut [u64], h: Hash, source: u64) -> u64
+    ensures { λ r. ⌜
+        (r ≡ done-flat (perform (changes (credits-duplicate h source)) (now (words .entry)) [] .answer))
+        × (now (words .exit) ≡ perform (changes (credits-duplicate h source)) (now (words .entry)) [] .words)
+        ⌝ }
+{
+    flat::of_accepted(window::credit_duplicate_delivery(words, h, source))
+}
+
+#[no_mangle]
+pub extern "C" fn kofudile_mark_peer_unresponsive(words: &mut [u64], source: u64, clock: u64) -> u64
+    ensures { λ r. ⌜
+        (r ≡ done-flat (perform (changes (marks-unresponsive clock source)) (now (words .entry)) [] .answer))
+        × (now (words .exit) ≡ perform (changes (marks-unresponsive clock source)) (now (words .entry)) [] .words)
+        ⌝ }
+{
+    flat::of_accepted(window::mark_peer_unresponsive(words, source, clock))
+}
+
+#[no_mangle]
+pub extern "C" fn kofudile_set_fanout_eligible_peers(words: &mut [u64], n: u64, clock: u64) -> u64
+    ensures { λ r. ⌜
+        (r ≡ done-flat (perform (changes (sets-fanout clock n)) (now (words .entry)) [] .answer))
+        × (now (words .exit) ≡ perform (changes (sets-fanout clock n)) (now (words .entry)) [] .words)
+        ⌝ }
+{
+    flat::of_accepted(window::set_fanout_eligible_peers(words, n, clock))
+}
+
+#[no_mangle]
+pub extern "C" fn kofudile_clear_preferred_peer(words: &mut [u64]) -> u64
+    ensures { λ r. ⌜
+        (r ≡ done-flat (perform (changes clears-preferred) (now (words .entry)) [] .answer))
+        × (now (words .exit) ≡ perform (changes clears-preferred) (now (words .entry)) [] .words)
+        ⌝ }
+{
+    flat::of_accepted(window::clear_preferred_peer(words))
+}
+
+#[no_mangle]
+pub extern "C" fn kofudile_mark_owned_fetch(
+    words: &mut [u64],
+    owner: u64,
+    h: Hash,
+    height: u32,
+    is_staged: bool,
+    byte_headroom: u64,
+    count_headroom: u64,
+    clock: u64,
+) -> FlatNumber
+    ensures { λ r. ⌜
+        (r ≡ number-flat (perform (changes (fetches clock owner h height «is_staged» «byte_headroom» «count_headroom»)) (now (words .entry)) [] .answer))
+        × (now (words .exit) ≡ perform (changes (fetches clock owner h height «is_staged» «byte_headroom» «count_headroom»)) (now (words .entry)) [] .words)
+        ⌝ }
+{
+    flat::of_fetch(window::mark_owned_fetch(
+        words,
+        owner,
+        h,
+        height,
+        is_staged,
+        byte_headroom,
+        count_headroom,
+        clock,
+    ))
+}
