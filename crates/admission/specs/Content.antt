@@ -1,0 +1,42 @@
+-- What is refused before a call's content, and what its content then says. Generic over the content. Assumes nothing.
+use mathlib.Core.Path.{_≡_, refl}
+use mathlib.Core.Bool.{Bool, true, false}
+use mathlib.Core.List.{List}
+use Prim.Native.Nat.{ℕ, suc, _≤_, _<_}
+use native.Mathlib.Omega.{arith}
+use borrow.Author.Tests.{le-leb, lt-leb}
+use Rattle.model.specs.Numbers.{max-body}
+use Rattle.model.specs.Window.{Window}
+use Rattle.model.specs.Layout.{window-of, is-window}
+use Rattle.model.specs.Refusals.{Moment, checking, nothing, test, moment-ok, report-ok, body-refusal, refusal-at, is-long, window-refusal}
+
+-- a test refuses, or the rest does
+either : (k n x y : ℕ) (b : Bool) → (n ≡ x → n ≡ y) → n ≡ test k b x → n ≡ test k b y
+either k n x y true f e = f e
+either k n x y false f e = e
+
+-- a test is passed, and the rest too
+passing : (k n x y : ℕ) (b : Bool) → (0 ≡ x → n ≡ y) → 0 ≡ test (suc k) b x → n ≡ test (suc k) b y
+passing k n x y true f e = f e
+passing k n x y false f e = absurd (omega arith)
+
+module _ (l : Bool) (m : Moment) (p : Bool) (f : Window → ℕ) (ws : List ℕ) (room : ℕ) where
+  pub before-content : (n : ℕ) → n ≡ window-refusal (checking l m p nothing) ws room → (n ≡ 0 → ⊥) → n ≡ window-refusal (checking l m p f) ws room
+  unfolding window-refusal refusal-at
+  before-content n e h =
+      either 1 n _ _ (is-long ws) (either 2 n _ _ (is-window ws) (either 3 n _ _ (report-ok l room) (either 4 n _ _ (moment-ok m (window-of ws .clock)) (either 6 n _ _ p (λ z. absurd (h z)))))) e
+
+  pub then-content : (k : ℕ) → 0 ≡ window-refusal (checking l m p nothing) ws room → k ≡ f (window-of ws) → k ≡ window-refusal (checking l m p f) ws room
+  unfolding window-refusal refusal-at
+  then-content k e c =
+      passing 0 k _ _ (is-long ws) (passing 1 k _ _ (is-window ws) (passing 2 k _ _ (report-ok l room) (passing 3 k _ _ (moment-ok m (window-of ws .clock)) (passing 5 k _ _ p (λ _. c))))) e
+
+-- ---- 9
+
+pub body-over : (bytes : ℕ) (w : Window) → max-body < bytes → 9 ≡ body-refusal bytes w
+unfolding body-refusal
+body-over bytes w h = rw (lt-leb bytes max-body h)
+
+pub body-fits : (bytes : ℕ) (w : Window) → bytes ≤ max-body → 0 ≡ body-refusal bytes w
+unfolding body-refusal
+body-fits bytes w h = rw (le-leb bytes max-body h)

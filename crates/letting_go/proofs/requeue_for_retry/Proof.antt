@@ -1,0 +1,70 @@
+-- `letting_go::requeue_for_retry` meets its contract. Assumes nothing.
+use mathlib.Core.Path.{_≡_, refl, sym, subst}
+use Prim.Native.Nat.{ℕ, _≤_}
+use native.Mathlib.Omega.{arith}
+use borrow.Author.Needs.{needs}
+use Rattle.model.specs.Numbers.{read-clock}
+use Rattle.model.specs.Refusals.{Change, checks, requeues}
+use Rattle.refusals.specs.Outcomes.{admitted}
+use Rattle.letting_go.specs.Letting.{lets-refused, lets-at}
+use Rattle.model.specs.LettingGo.{requeue-for-retry}
+use Rattle.model.specs.Layout.{window-of}
+use Rattle.model.specs.declared.Height.{Height}
+use Rattle.laws.specs.Whole.{Holds}
+use Rattle.report_words.specs.Report.{releases-of}
+use Rattle.heights.specs.Heights.{wide}
+use Rattle.letting_go.proofs.requeue_for_retry.Statement.{statement}
+use Rattle.letting_go.proofs.requeue_for_retry.Tie as tie
+
+admits-report-requires : tie.Need-admits-report-requires
+admits-report-requires c κs = search needs
+
+same-length : tie.Need-same-length
+same-length c = refl
+
+returns : tie.Need-returns
+returns c =
+    let a = c .before .before .before .before .before .args in
+    let ws = a .words .now in
+    let x : Change = requeues (a .clock) (a .h) (wide (a .named)) in
+    let k = c .before .admits-report in
+    lets-refused x ws (a .room) (k .result) (k .ensures) (a .gone .now) (c .if1 .taken)
+
+widened-requires : tie.Need-widened-requires
+widened-requires c κs = search needs
+
+requeue-for-retry-requires : tie.Need-requeue-for-retry-requires
+unfolding read-clock
+requeue-for-retry-requires c κs =
+    let a = c .before .before .before .before .before .before .before .before .args in
+    let ws = a .words .now in
+    let x : Change = requeues (a .clock) (a .h) (wide (a .named)) in
+    let k = c .before .before .before .before .admits-report in
+    let g = admitted (checks x) ws (a .room) (k .result) (k .ensures) (c .before .before .before .if1 .left) in
+    (g .whole, (g .sound-at, c .before .before .before .before .before .before .before .before .pre))
+
+set-clock-requires : tie.Need-set-clock-requires
+set-clock-requires c κs = c .before .before .before .before .before .requeue-for-retry .ensures .1 .whole
+
+same-length-2 : tie.Need-same-length-2
+same-length-2 c = search needs
+
+same-length-3 : tie.Need-same-length-3
+same-length-3 c = search needs
+
+returns-2 : tie.Need-returns-2
+returns-2 c =
+    let a = c .before .before .before .before .before .before .before .before .before .before .before .before .before .before .before .before .before .args in
+    let ws = a .words .now in
+    let x : Change = requeues (a .clock) (a .h) (wide (a .named)) in
+    let k = c .before .before .before .before .before .before .before .before .before .before .before .before .before .admits-report in
+    let p = c .before .before .before .before .before .before .before .before .requeue-for-retry in
+    let s = c .before .before .set-clock in
+    let height = c .before .before .before .before .before .before .before .before .before .before .before .widened .result in
+    let named : height ≡ wide (a .named) = c .before .before .before .before .before .before .before .before .before .before .before .widened .ensures .0 in
+    lets-at x ws (a .room) (k .result) (k .ensures) (c .before .before .before .before .before .before .before .before .before .before .before .before .if1 .left) refl (p .result) (p .last .1 .0) (omega (arith, p .ensures .0)) (a .clock) refl (p .last .0) (s .last .0)
+    (subst (λ (y : Height). Holds (requeue-for-retry (a .h) y (a .clock) (window-of ws) .window) (p .last .0)) named (p .ensures .1)) (s .ensures)
+    (subst (λ (y : Height). releases-of (p .result) (p .last .1 .0) ≡ requeue-for-retry (a .h) y (a .clock) (window-of ws) .gone) named (p .ensures .2)) _ refl
+
+pub requeue-for-retry-spec : {M : Type 1} → statement M
+requeue-for-retry-spec = tie.close (tie.spec admits-report-requires same-length returns widened-requires requeue-for-retry-requires set-clock-requires same-length-2 same-length-3 returns-2)

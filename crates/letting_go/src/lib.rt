@@ -1,0 +1,184 @@
+// The calls that let go, with their refusals, in lent words. What went is written, nine words each, in `gone`: the public call writes the lent report
+// from it. `room` is that report's length.
+ghost use mathlib.Core.Path.{_≡_};
+ghost use Prim.Native.Nat.{_≤_};
+ghost use lib.ListN.{length};
+ghost use Rattle.model.specs.Refusals.{changes, releases, requeues, rejects, expires, retires, retains};
+ghost use Rattle.model.specs.Perform.{answer-after, words-after, gone-after};
+ghost use Rattle.model.specs.Says.{let-go-says, rejected-says};
+ghost use Rattle.report_words.specs.Report.{releases-of};
+ghost use Rattle.heights.specs.Heights.{wide};
+ghost use Rattle.letting_go.specs.Letting.{places};
+use heights::Height32;
+use model::Hash;
+use model::LetGo;
+use model::Rejected;
+use model::Source;
+
+// `releases`
+pub fn release_pending(
+    words: &mut [u64],
+    room: usize,
+    gone: &mut [u64],
+    h: Hash,
+    clock: u64,
+) -> LetGo
+    requires { ⌜ length (now gone) ≡ 2304 ⌝ }
+    ensures { λ r. ⌜
+        (let-go-says r ≡ answer-after (changes (releases clock h)) (now (words .entry)) room)
+        × (now (words .exit) ≡ words-after (changes (releases clock h)) (now (words .entry)) room)
+        × (releases-of (places (let-go-says r)) (now (gone .exit)) ≡ gone-after (changes (releases clock h)) (now (words .entry)) room)
+        × (places (let-go-says r) ≤ room)
+        × (places (let-go-says r) ≤ 256)
+        ⌝ }
+{
+    let k = admission::admits_report(words, room, clock, true);
+    if k != 0 {
+        return LetGo::Refused(k);
+    }
+    let n = release::release_pending(words, gone, h, clock);
+    state::set_clock(words, clock);
+    LetGo::Gone(n as u64)
+}
+
+// `requeues`
+pub fn requeue_for_retry(
+    words: &mut [u64],
+    room: usize,
+    gone: &mut [u64],
+    h: Hash,
+    named: Height32,
+    clock: u64,
+) -> LetGo
+    requires { ⌜ length (now gone) ≡ 2304 ⌝ }
+    ensures { λ r. ⌜
+        (let-go-says r ≡ answer-after (changes (requeues clock h (wide named))) (now (words .entry)) room)
+        × (now (words .exit) ≡ words-after (changes (requeues clock h (wide named))) (now (words .entry)) room)
+        × (releases-of (places (let-go-says r)) (now (gone .exit)) ≡ gone-after (changes (requeues clock h (wide named))) (now (words .entry)) room)
+        × (places (let-go-says r) ≤ room)
+        × (places (let-go-says r) ≤ 256)
+        ⌝ }
+{
+    let k = admission::admits_report(words, room, clock, true);
+    if k != 0 {
+        return LetGo::Refused(k);
+    }
+    let height = heights::widened(named);
+    let n = release::requeue_for_retry(words, gone, h, height, clock);
+    state::set_clock(words, clock);
+    LetGo::Gone(n as u64)
+}
+
+// `rejects`
+pub fn reject_delivery(
+    words: &mut [u64],
+    room: usize,
+    gone: &mut [u64],
+    h: Hash,
+    source: Source,
+    clock: u64,
+) -> Rejected
+    requires { ⌜ length (now gone) ≡ 2304 ⌝ }
+    ensures { λ r. ⌜
+        (rejected-says r ≡ answer-after (changes (rejects clock h source)) (now (words .entry)) room)
+        × (now (words .exit) ≡ words-after (changes (rejects clock h source)) (now (words .entry)) room)
+        × (releases-of (places (rejected-says r)) (now (gone .exit)) ≡ gone-after (changes (rejects clock h source)) (now (words .entry)) room)
+        × (places (rejected-says r) ≤ room)
+        × (places (rejected-says r) ≤ 256)
+        ⌝ }
+{
+    let p = admission::source_ok(source);
+    let k = admission::admits_report(words, room, clock, p);
+    if k != 0 {
+        return Rejected::Refused(k);
+    }
+    let r = calls::reject_delivery(words, gone, h, source, clock);
+    state::set_clock(words, clock);
+    r
+}
+
+// `expires`
+pub fn expire_pending(words: &mut [u64], room: usize, gone: &mut [u64], clock: u64) -> LetGo
+    requires { ⌜ length (now gone) ≡ 2304 ⌝ }
+    ensures { λ r. ⌜
+        (let-go-says r ≡ answer-after (changes (expires clock)) (now (words .entry)) room)
+        × (now (words .exit) ≡ words-after (changes (expires clock)) (now (words .entry)) room)
+        × (releases-of (places (let-go-says r)) (now (gone .exit)) ≡ gone-after (changes (expires clock)) (now (words .entry)) room)
+        × (places (let-go-says r) ≤ room)
+        × (places (let-go-says r) ≤ 256)
+        ⌝ }
+{
+    let k = admission::admits_report(words, room, clock, true);
+    if k != 0 {
+        return LetGo::Refused(k);
+    }
+    let n = sweep::expire_pending(words, gone, clock);
+    state::set_clock(words, clock);
+    LetGo::Gone(n as u64)
+}
+
+// `retires`
+pub fn retire_before(
+    words: &mut [u64],
+    room: usize,
+    gone: &mut [u64],
+    height: u32,
+    clock: u64,
+) -> LetGo
+    requires { ⌜ length (now gone) ≡ 2304 ⌝ }
+    ensures { λ r. ⌜
+        (let-go-says r ≡ answer-after (changes (retires clock height)) (now (words .entry)) room)
+        × (now (words .exit) ≡ words-after (changes (retires clock height)) (now (words .entry)) room)
+        × (releases-of (places (let-go-says r)) (now (gone .exit)) ≡ gone-after (changes (retires clock height)) (now (words .entry)) room)
+        × (places (let-go-says r) ≤ room)
+        × (places (let-go-says r) ≤ 256)
+        ⌝ }
+{
+    let k = admission::admits_report(words, room, clock, true);
+    if k != 0 {
+        return LetGo::Refused(k);
+    }
+    let n = sweep::retire_before(words, gone, height as u64, clock);
+    state::set_clock(words, clock);
+    LetGo::Gone(n as u64)
+}
+
+// `retains`: it takes no clock, and leaves the last one
+pub fn retain_owned_by(words: &mut [u64], room: usize, gone: &mut [u64], flags: &[u64]) -> LetGo
+    requires { ⌜ length (now gone) ≡ 2304 ⌝ }
+    ensures { λ r. ⌜
+        (let-go-says r ≡ answer-after (changes (retains (now (flags .entry)))) (now (words .entry)) room)
+        × (now (words .exit) ≡ words-after (changes (retains (now (flags .entry)))) (now (words .entry)) room)
+        × (releases-of (places (let-go-says r)) (now (gone .exit)) ≡ gone-after (changes (retains (now (flags .entry)))) (now (words .entry)) room)
+        × (places (let-go-says r) ≤ room)
+        × (places (let-go-says r) ≤ 256)
+        ⌝ }
+{
+    let k = admission::admits_report_timeless(words, room, flags.len() == 256);
+    if k != 0 {
+        return LetGo::Refused(k);
+    }
+    let n = retain::retain_owned_by(words, gone, flags);
+    LetGo::Gone(n as u64)
+}
+
+// ---- how many places of the report an answer counts
+
+pub fn places_of(r: LetGo) -> usize
+    ensures { λ n. ⌜ n ≡ places (let-go-says r) ⌝ }
+{
+    match r {
+        LetGo::Refused(_) => 0,
+        LetGo::Gone(n) => n as usize,
+    }
+}
+
+pub fn places_of_rejected(r: Rejected) -> usize
+    ensures { λ n. ⌜ n ≡ places (rejected-says r) ⌝ }
+{
+    match r {
+        Rejected::Refused(_) => 0,
+        Rejected::ReleasedPending(n) => n as usize,
+        Rejected::DiscardedUnsolicited => 0,
+    }
+}

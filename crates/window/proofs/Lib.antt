@@ -1,0 +1,3 @@
+pub mod Big
+pub mod Gone
+pub mod Local
