@@ -36,6 +36,12 @@ impl calls::Window for Original {
     }
 }
 
+impl calls::figures::Loaded for Original {
+    fn loaded(state: &State) -> Self {
+        Self::loaded(state)
+    }
+}
+
 impl Default for Original {
     /// A window for the first opening to replace.
     fn default() -> Self {

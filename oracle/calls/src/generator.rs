@@ -22,6 +22,7 @@ impl Default for Profile {
 }
 
 /// Gives the calls of one seed, one by one.
+#[derive(Clone)]
 pub struct Generator {
     random: Random,
     profile: Profile,
@@ -487,6 +488,8 @@ impl Generator {
             return (hash, self.random.pick(&[Some(owner), Some(alternate), Some(alternate), Some(other), None]));
         }
         if let Some(probe) = &state.prefix_probe
+            && !probe.racers.is_empty()
+            && !probe.hashes.is_empty()
             && self.random.chance(75)
         {
             return self.race_delivery(probe);
@@ -557,7 +560,7 @@ impl Generator {
         let races = self.world.theme == Theme::Races;
         match (&state.prefix_probe, state.pending.first()) {
             (None, Some(entry)) if races && self.random.chance(85) => entry.owner,
-            (Some(probe), _) if self.random.chance(60) => self.random.pick(&probe.racers).0,
+            (Some(probe), _) if !probe.racers.is_empty() && self.random.chance(60) => self.random.pick(&probe.racers).0,
             (Some(probe), _) => self.world.other_seat(&mut self.random, probe.owner),
             _ => self.seat(state),
         }

@@ -4,6 +4,7 @@
 pub mod compare;
 pub mod data;
 pub mod events;
+pub mod figures;
 pub mod generator;
 pub mod random;
 pub mod select;

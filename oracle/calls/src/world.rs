@@ -67,6 +67,7 @@ impl Theme {
 const MILLISECOND: u64 = 1_000_000;
 const SECOND: u64 = 1_000_000_000;
 
+#[derive(Clone)]
 pub struct World {
     pub theme: Theme,
     pub settings: Settings,
@@ -183,8 +184,9 @@ impl World {
         }
     }
 
+    /// Hashes come from the pool, but for those of memory that was lent otherwise.
     pub fn index_of(&self, hash: Hash) -> u64 {
-        (0..self.pool).find(|index| self.hash(*index) == hash).expect("hashes come from the pool")
+        (0..self.pool).find(|index| self.hash(*index) == hash).unwrap_or(0)
     }
 
     /// The height that belongs to a hash of this world.

@@ -1,7 +1,6 @@
 //! The oracle's commands; the scripts in oracle/ build and call this program.
 
 mod arms;
-mod figures;
 mod mutants;
 mod places;
 #[path = "../../original/substitutions.rs"]
@@ -9,6 +8,7 @@ mod substitutions;
 
 use calls::compare;
 use calls::events;
+use calls::figures;
 use calls::generator::Profile;
 use calls::select;
 use calls::sound;
@@ -37,7 +37,7 @@ fn main() -> ExitCode {
         "tally" => tally(&options),
         "sound" => sound(&options),
         "figures" => {
-            let (held, failed) = figures::run();
+            let (held, failed) = figures::run::<Ordered>();
             println!("{held} passed, {failed} failed");
             failed == 0
         }

@@ -2,20 +2,17 @@
 //! limit. What is expected comes from `raw`, 01's list written down independently.
 //! refusals SEED MODEL OUT: MODEL is the folder of the model's specs, OUT the crate folder to write.
 
-mod samples;
-mod tables;
-mod windows;
-
 use calls::random::Random;
 use definitions::checks::{LENT, digest, theorem};
 use definitions::{closed, spell};
 use layout::{HEAD, WORDS, encode};
 use raw::{Call, causes, kind, refusal};
-use samples::{Try, samples, variations};
+use refusals::samples::{Try, samples, variations};
+use refusals::tables;
+use refusals::windows::{self, Window};
 use std::collections::{BTreeMap, BTreeSet};
 use std::path::Path;
 use std::{env, io};
-use windows::Window;
 
 /// Numbers for which a call is performed in full, which takes seconds.
 const PERFORMED: [u8; 5] = [1, 2, 3, 6, 9];
