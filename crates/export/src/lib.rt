@@ -4,12 +4,16 @@ ghost use mathlib.Core.Path.{_≡_};
 ghost use mathlib.Core.List.{[]};
 ghost use Rattle.model.specs.Refusals.{changes, queries, clears-preferred, credits-duplicate, sets-fanout, marks-unresponsive, fetches};
 ghost use Rattle.model.specs.Queries.{reads, pending-len, pending-bytes, asks-expired-capacity, stall-timeout, max-pending-blocks, min-peers-for-fanout, fanout-active, pending-high-water, stalling-peer, peer-inflight, active-peers, decay-floor, request-cursor, ewma-block-bytes, asks-request-capacity, asks-contains, asks-count-for, asks-downloading, owner-timeout, asks-hedge-offered, asks-has-expired, asks-cooldown};
+ghost use Rattle.model.specs.Refusals.{rejects, expires, requeues, releases, retires, retains};
 ghost use Rattle.model.specs.Perform.{perform};
-ghost use Rattle.flat.specs.Flat.{done-flat, number-flat, pair-flat, perhaps-pair-flat};
+ghost use Rattle.flat.specs.Flat.{done-flat, number-flat, pair-flat, perhaps-pair-flat, gone-flat, rejected-flat, source-if, height-if};
+use flat::FlatGone;
 use flat::FlatNumber;
 use flat::FlatPair;
 use flat::FlatPerhapsPair;
+use flat::FlatRejected;
 use model::Hash;
+use model::Release;
 
 #[no_mangle]
 pub extern "C" fn kofudile_pending_len(words: &[u64]) -> FlatNumber
@@ -243,4 +247,106 @@ pub extern "C" fn kofudile_mark_owned_fetch(
         count_headroom,
         clock,
     ))
+}
+
+// ---- lent a report: the walks are written by tools/exports
+
+#[no_mangle]
+pub extern "C" fn kofudile_reject_delivery(
+    words: &mut [u64],
+    report: &mut [Release],
+    h: Hash,
+    has_source: bool,
+    source: u64,
+    clock: u64,
+) -> FlatRejected
+    ensures { λ r. ⌜
+        (r ≡ rejected-flat (perform (changes (rejects clock h (source-if «has_source» source))) (now (words .entry)) (now (report .entry)) .answer))
+        × (now (words .exit) ≡ perform (changes (rejects clock h (source-if «has_source» source))) (now (words .entry)) (now (report .entry)) .words)
+        × (now (report .exit) ≡ perform (changes (rejects clock h (source-if «has_source» source))) (now (words .entry)) (now (report .entry)) .report)
+        ⌝ }
+{
+    let s = flat::source_of(has_source, source);
+    flat::of_rejected(window::reject_delivery(words, report, h, s, clock))
+}
+
+#[no_mangle]
+pub extern "C" fn kofudile_expire_pending(
+    words: &mut [u64],
+    report: &mut [Release],
+    clock: u64,
+) -> FlatGone
+    ensures { λ r. ⌜
+        (r ≡ gone-flat (perform (changes (expires clock)) (now (words .entry)) (now (report .entry)) .answer))
+        × (now (words .exit) ≡ perform (changes (expires clock)) (now (words .entry)) (now (report .entry)) .words)
+        × (now (report .exit) ≡ perform (changes (expires clock)) (now (words .entry)) (now (report .entry)) .report)
+        ⌝ }
+{
+    flat::of_let_go(window::expire_pending(words, report, clock))
+}
+
+#[no_mangle]
+pub extern "C" fn kofudile_requeue_for_retry(
+    words: &mut [u64],
+    report: &mut [Release],
+    h: Hash,
+    has_height: bool,
+    height: u32,
+    clock: u64,
+) -> FlatGone
+    ensures { λ r. ⌜
+        (r ≡ gone-flat (perform (changes (requeues clock h (height-if «has_height» height))) (now (words .entry)) (now (report .entry)) .answer))
+        × (now (words .exit) ≡ perform (changes (requeues clock h (height-if «has_height» height))) (now (words .entry)) (now (report .entry)) .words)
+        × (now (report .exit) ≡ perform (changes (requeues clock h (height-if «has_height» height))) (now (words .entry)) (now (report .entry)) .report)
+        ⌝ }
+{
+    let named = flat::height_of(has_height, height);
+    flat::of_let_go(window::requeue_for_retry(words, report, h, named, clock))
+}
+
+#[no_mangle]
+pub extern "C" fn kofudile_release_pending(
+    words: &mut [u64],
+    report: &mut [Release],
+    h: Hash,
+    clock: u64,
+) -> FlatGone
+    ensures { λ r. ⌜
+        (r ≡ gone-flat (perform (changes (releases clock h)) (now (words .entry)) (now (report .entry)) .answer))
+        × (now (words .exit) ≡ perform (changes (releases clock h)) (now (words .entry)) (now (report .entry)) .words)
+        × (now (report .exit) ≡ perform (changes (releases clock h)) (now (words .entry)) (now (report .entry)) .report)
+        ⌝ }
+{
+    flat::of_let_go(window::release_pending(words, report, h, clock))
+}
+
+#[no_mangle]
+pub extern "C" fn kofudile_retire_before(
+    words: &mut [u64],
+    report: &mut [Release],
+    height: u32,
+    clock: u64,
+) -> FlatGone
+    ensures { λ r. ⌜
+        (r ≡ gone-flat (perform (changes (retires clock height)) (now (words .entry)) (now (report .entry)) .answer))
+        × (now (words .exit) ≡ perform (changes (retires clock height)) (now (words .entry)) (now (report .entry)) .words)
+        × (now (report .exit) ≡ perform (changes (retires clock height)) (now (words .entry)) (now (report .entry)) .report)
+        ⌝ }
+{
+    flat::of_let_go(window::retire_before(words, report, height, clock))
+}
+
+#[no_mangle]
+pub extern "C" fn kofudile_retain_owned_by(
+    words: &mut [u64],
+    report: &mut [Release],
+    flags: &[u64],
+) -> FlatGone
+    ensures { λ r. ⌜
+        (r ≡ gone-flat (perform (changes (retains (now (flags .entry)))) (now (words .entry)) (now (report .entry)) .answer))
+        × (now (words .exit) ≡ perform (changes (retains (now (flags .entry)))) (now (words .entry)) (now (report .entry)) .words)
+        × (now (report .exit) ≡ perform (changes (retains (now (flags .entry)))) (now (words .entry)) (now (report .entry)) .report)
+        ⌝ }
+{
+    flat::of_let_go(window::retain_owned_by(words, report, flags))
 }
