@@ -1,0 +1,3 @@
+//! Functions that the library has not yet.
+
+include!(concat!(env!("OUT_DIR"), "/missing.rs"));
