@@ -175,6 +175,9 @@ impl Subject for Ours {
     #[inline(always)]
     fn mark_requested(&mut self, request: &Request, now: u64) -> u64 {
         if lacks("mark_requested") {
+            if let ([a, b, c, d], [height]) = (&request.hashes[..], &request.heights[..]) {
+                return self.mark_owned_fetch(request.owner, Hash([*a, *b, *c, *d]), *height, now);
+            }
             return interim::request(self.words_mut(), request.owner, &request.hashes, &request.heights, now);
         }
         let Request { owner, hashes, heights } = request;
