@@ -1,2 +1,4 @@
 pub mod Admits
+pub mod Opening
 pub mod Content
+pub mod Alternates

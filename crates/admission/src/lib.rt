@@ -1,7 +1,9 @@
 // What a call is refused by, before anything of the window is read for it: 01's numbers, the lowest first.
 ghost use mathlib.Core.Path.{_≡_};
 ghost use mathlib.Core.Bool.{true, false};
-ghost use Rattle.model.specs.Refusals.{at, timeless, checking, nothing, body-refusal, source-ok, window-refusal};
+ghost use Rattle.model.specs.Layout.{settings-ok};
+ghost use Rattle.model.specs.Refusals.{at, timeless, checking, nothing, keys-ok, window-refusal, opening-refusal, body-refusal, source-ok, alternates-ok};
+use model::Settings;
 use model::Source;
 
 // What a call or query without a clock and without a report is refused by: 1, 2, 6, or 0 for none.
@@ -43,35 +45,65 @@ pub fn admits_at(words: &[u64], clock: u64, peers: bool) -> u64
     0
 }
 
-// ---- calls that let go
+// ---- the opening
 
-// What a call that lets go, with a clock, is refused by before its content: 1, 2, 3, 4, 6, or 0 for none. `room` is the report's length.
-pub fn admits_report(words: &[u64], room: usize, clock: u64, peers: bool) -> u64
-    ensures { λ r. ⌜ r ≡ window-refusal (checking true (at clock) peers nothing) (now (words .entry)) room ⌝ }
+// `settings-ok`
+fn settings_fit(b: Settings) -> bool
+    ensures { λ r. ⌜ r ≡ settings-ok b ⌝ }
+{
+    (b.max_pending_blocks <= 256)
+        & (b.max_pending_bytes <= 1_099_511_627_776)
+        & (b.max_received_blocks <= 65535)
+        & (b.max_peer_inflight <= 65535)
+        & (b.fanout_peer_inflight <= 65535)
+        & (b.min_peers_for_fanout <= 65535)
+        & (b.getdata_batch_limit <= 65535)
+        & (b.block_spacing <= 1_000_000_000_000_000)
+        & (b.received_timeout <= 1_000_000_000_000_000)
+        & (b.stall_timeout_initial <= 1_000_000_000_000_000)
+        & (b.stall_timeout_max <= 1_000_000_000_000_000)
+        & (b.staller_cooldown <= 1_000_000_000_000_000)
+}
+
+// `keys-ok`: 256 keys, each at most 255.
+fn keys_fit(keys: &[u64]) -> bool
+    ensures { λ r. ⌜ r ≡ keys-ok (now (keys .entry)) ⌝ }
+{
+    if keys.len() != 256 {
+        return false;
+    }
+    let mut i = 0;
+    while i < 256 {
+        if keys[i] > 255 {
+            return false;
+        }
+        i += 1;
+    }
+    true
+}
+
+// What an opening is refused by: 1, 4 by the bound alone, 5, 6, or 0 for none. Of the words it reads nothing.
+pub fn admits_opening(words: &[u64], clock: u64, b: Settings, keys: &[u64]) -> u64
+    ensures { λ r. ⌜ r ≡ opening-refusal clock b (now (keys .entry)) (now (words .entry)) ⌝ }
 {
     if words.len() != 4096 {
         return 1;
     }
-    if !check_window::is_window(words) {
-        return 2;
-    }
-    if room < 256 {
-        return 3;
-    }
-    if clock > 4611686018427387904 {
+    if 4611686018427387904 < clock {
         return 4;
     }
-    let last = state::get_clock(words);
-    if clock < last {
-        return 4;
+    if !settings_fit(b) {
+        return 5;
     }
-    if !peers {
+    if !keys_fit(keys) {
         return 6;
     }
     0
 }
 
-// The same without a clock: 1, 2, 3, 6, or 0 for none.
+// ---- calls that let go
+
+// What a call that lets go, without a clock, is refused by: 1, 2, 3, 6, or 0 for none. `room` is the report's length.
 pub fn admits_report_timeless(words: &[u64], room: usize, peers: bool) -> u64
     ensures { λ r. ⌜ r ≡ window-refusal (checking true timeless peers nothing) (now (words .entry)) room ⌝ }
 {
@@ -83,6 +115,27 @@ pub fn admits_report_timeless(words: &[u64], room: usize, peers: bool) -> u64
     }
     if room < 256 {
         return 3;
+    }
+    if !peers {
+        return 6;
+    }
+    0
+}
+
+// The same with a clock: 1, 2, 3, 4, 6, or 0 for none.
+pub fn admits_report(words: &[u64], room: usize, clock: u64, peers: bool) -> u64
+    ensures { λ r. ⌜ r ≡ window-refusal (checking true (at clock) peers nothing) (now (words .entry)) room ⌝ }
+{
+    let k = admits_report_timeless(words, room, true);
+    if k != 0 {
+        return k;
+    }
+    if clock > 4611686018427387904 {
+        return 4;
+    }
+    let accepted = state::get_clock(words);
+    if clock < accepted {
+        return 4;
     }
     if !peers {
         return 6;
@@ -112,4 +165,23 @@ pub fn source_ok(source: Source) -> bool
         Source::Missing => true,
         Source::From(s) => s <= 255,
     }
+}
+
+// ---- the alternates of a probe
+
+// At most 256, each at most 255.
+pub fn alternates_ok(alternates: &[u64]) -> bool
+    ensures { λ r. ⌜ r ≡ alternates-ok (now (alternates .entry)) ⌝ }
+{
+    if alternates.len() > 256 {
+        return false;
+    }
+    let mut i = 0;
+    while i < alternates.len() {
+        if alternates[i] > 255 {
+            return false;
+        }
+        i += 1;
+    }
+    true
 }

@@ -10,6 +10,7 @@ ghost use Rattle.model.specs.declared.Source.the-variants.{From};
 ghost use Rattle.laws.specs.Sound.{Sound};
 ghost use Rattle.laws.specs.Whole.{Whole, Holds};
 ghost use Rattle.states.specs.Fits.{cold-fits};
+use lent_pace::Turn;
 use model::Fanout;
 use model::Hash;
 use model::Height;
@@ -36,7 +37,7 @@ pub fn record_delivery_progress(words: &mut [u64], source: u64, h: Hash, height:
     let x = rules::unless_stalled(h, source, s);
     let b = state::get_settings(words);
     let p = state::get_pace(words);
-    let q = pace::front_recorded(b, clock, p);
+    let q = lent_pace::changed(Turn::Front, p, b, clock);
     let front = state_queue::was_front(words, height);
     state::set_stall(words, x);
     if front {

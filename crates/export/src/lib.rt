@@ -5,15 +5,25 @@ ghost use mathlib.Core.List.{[]};
 ghost use Rattle.model.specs.Refusals.{changes, queries, clears-preferred, credits-duplicate, sets-fanout, marks-unresponsive, fetches};
 ghost use Rattle.model.specs.Queries.{reads, pending-len, pending-bytes, asks-expired-capacity, stall-timeout, max-pending-blocks, min-peers-for-fanout, fanout-active, pending-high-water, stalling-peer, peer-inflight, active-peers, decay-floor, request-cursor, ewma-block-bytes, asks-request-capacity, asks-contains, asks-count-for, asks-downloading, owner-timeout, asks-hedge-offered, asks-has-expired, asks-cooldown};
 ghost use Rattle.model.specs.Refusals.{rejects, expires, requeues, releases, retires, retains};
+ghost use Rattle.model.specs.Refusals.{opens, requests, confirms-probe, confirms-hedge, observes};
+ghost use Rattle.model.specs.Queries.{preferred-peer, probe-plan, front-interval-ewma-ms, probe-start, asks-compute-capacity, asks-probe-offered, asks-owner, asks-queue-start};
+ghost use Rattle.model.specs.Lists.{pad};
+ghost use Rattle.observation.specs.Look.{look};
+ghost use Rattle.window_queries.specs.Plan.{hash-part};
 ghost use Rattle.model.specs.Perform.{perform};
-ghost use Rattle.flat.specs.Flat.{done-flat, number-flat, pair-flat, perhaps-pair-flat, gone-flat, rejected-flat, source-if, height-if};
+ghost use Rattle.flat.specs.Flat.{done-flat, number-flat, pair-flat, perhaps-pair-flat, gone-flat, rejected-flat, perhaps-flat, blocked-flat, plan-flat, source-if, height-if, sought-if};
+use flat::FlatBlocked;
 use flat::FlatGone;
+use flat::FlatHashes;
 use flat::FlatNumber;
 use flat::FlatPair;
+use flat::FlatPerhaps;
 use flat::FlatPerhapsPair;
+use flat::FlatPlan;
 use flat::FlatRejected;
 use model::Hash;
 use model::Release;
+use model::Settings;
 
 #[no_mangle]
 pub extern "C" fn kofudile_pending_len(words: &[u64]) -> FlatNumber
@@ -247,6 +257,177 @@ pub extern "C" fn kofudile_mark_owned_fetch(
         count_headroom,
         clock,
     ))
+}
+
+#[no_mangle]
+pub extern "C" fn kofudile_probe_offered(words: &[u64], seat: u64, h: Hash) -> FlatNumber
+    ensures { λ r. ⌜ r ≡ number-flat (perform (queries (asks-probe-offered seat h)) (now (words .entry)) [] .answer) ⌝ }
+{
+    flat::of_truth(window_queries::probe_offered(words, seat, h))
+}
+
+#[no_mangle]
+pub extern "C" fn kofudile_compute_request_capacity(
+    words: &[u64],
+    seat: u64,
+    byte_headroom: u64,
+    count_headroom: u64,
+) -> FlatPerhapsPair
+    ensures { λ r. ⌜ r ≡ perhaps-pair-flat (perform (queries (asks-compute-capacity seat «byte_headroom» «count_headroom»)) (now (words .entry)) [] .answer) ⌝ }
+{
+    flat::of_perhaps_pair(window_queries::compute_request_capacity(
+        words,
+        seat,
+        byte_headroom,
+        count_headroom,
+    ))
+}
+
+#[no_mangle]
+pub extern "C" fn kofudile_preferred_peer(words: &[u64]) -> FlatPerhaps
+    ensures { λ r. ⌜ r ≡ perhaps-flat (perform (queries (reads preferred-peer)) (now (words .entry)) [] .answer) ⌝ }
+{
+    flat::of_perhaps(window_queries::preferred_peer(words))
+}
+
+#[no_mangle]
+pub extern "C" fn kofudile_pending_owner(words: &[u64], h: Hash) -> FlatPerhaps
+    ensures { λ r. ⌜ r ≡ perhaps-flat (perform (queries (asks-owner h)) (now (words .entry)) [] .answer) ⌝ }
+{
+    flat::of_perhaps(window_queries::pending_owner(words, h))
+}
+
+#[no_mangle]
+pub extern "C" fn kofudile_owner_queue_start(words: &[u64], seat: u64) -> FlatPerhaps
+    ensures { λ r. ⌜ r ≡ perhaps-flat (perform (queries (asks-queue-start seat)) (now (words .entry)) [] .answer) ⌝ }
+{
+    flat::of_perhaps(window_queries::owner_queue_start(words, seat))
+}
+
+#[no_mangle]
+pub extern "C" fn kofudile_front_interval_ewma_ms(words: &[u64]) -> FlatPerhaps
+    ensures { λ r. ⌜ r ≡ perhaps-flat (perform (queries (reads front-interval-ewma-ms)) (now (words .entry)) [] .answer) ⌝ }
+{
+    flat::of_perhaps(window_queries::front_interval_ewma_ms(words))
+}
+
+#[no_mangle]
+pub extern "C" fn kofudile_active_prefix_probe_started_at(words: &[u64]) -> FlatPerhaps
+    ensures { λ r. ⌜ r ≡ perhaps-flat (perform (queries (reads probe-start)) (now (words .entry)) [] .answer) ⌝ }
+{
+    flat::of_perhaps(window_queries::active_prefix_probe_started_at(words))
+}
+
+#[no_mangle]
+pub extern "C" fn kofudile_prefix_probe_plan(words: &[u64]) -> FlatPlan
+    ensures { λ r. ⌜ r ≡ plan-flat (perform (queries (reads probe-plan)) (now (words .entry)) [] .answer) ⌝ }
+{
+    flat::of_plan(window_queries::prefix_probe_plan(words))
+}
+
+#[no_mangle]
+pub extern "C" fn kofudile_prefix_probe_hashes(words: &[u64]) -> FlatHashes
+    ensures { λ r. ⌜ r .words ≡ pad 32 0 (hash-part (perform (queries (reads probe-plan)) (now (words .entry)) [] .answer)) ⌝ }
+{
+    flat::of_rows(window_queries::prefix_probe_hashes(words))
+}
+
+#[no_mangle]
+pub extern "C" fn kofudile_open(
+    words: &mut [u64],
+    settings: Settings,
+    keys: &[u64],
+    clock: u64,
+) -> u64
+    ensures { λ r. ⌜
+        (r ≡ done-flat (perform (opens clock settings (now (keys .entry))) (now (words .entry)) [] .answer))
+        × (now (words .exit) ≡ perform (opens clock settings (now (keys .entry))) (now (words .entry)) [] .words)
+        ⌝ }
+{
+    flat::of_accepted(window::open(words, settings, keys, clock))
+}
+
+#[no_mangle]
+pub extern "C" fn kofudile_mark_requested(
+    words: &mut [u64],
+    owner: u64,
+    hashes: &[u64],
+    heights: &[u32],
+    next: u32,
+    byte_headroom: u64,
+    count_headroom: u64,
+    clock: u64,
+) -> FlatNumber
+    ensures { λ r. ⌜
+        (r ≡ number-flat (perform (changes (requests clock owner (now (hashes .entry)) (now (heights .entry)) next «byte_headroom» «count_headroom»)) (now (words .entry)) [] .answer))
+        × (now (words .exit) ≡ perform (changes (requests clock owner (now (hashes .entry)) (now (heights .entry)) next «byte_headroom» «count_headroom»)) (now (words .entry)) [] .words)
+        ⌝ }
+{
+    flat::of_requested(window::mark_requested(
+        words,
+        owner,
+        hashes,
+        heights,
+        next,
+        byte_headroom,
+        count_headroom,
+        clock,
+    ))
+}
+
+#[no_mangle]
+pub extern "C" fn kofudile_confirm_prefix_probe(
+    words: &mut [u64],
+    owner: u64,
+    given: &[u64],
+    alternates: &[u64],
+    clock: u64,
+) -> u64
+    ensures { λ r. ⌜
+        (r ≡ done-flat (perform (changes (confirms-probe clock owner (now (given .entry)) (now (alternates .entry)))) (now (words .entry)) [] .answer))
+        × (now (words .exit) ≡ perform (changes (confirms-probe clock owner (now (given .entry)) (now (alternates .entry)))) (now (words .entry)) [] .words)
+        ⌝ }
+{
+    flat::of_accepted(window::confirm_prefix_probe(words, owner, given, alternates, clock))
+}
+
+#[no_mangle]
+pub extern "C" fn kofudile_confirm_cold_front_hedge(
+    words: &mut [u64],
+    owner: u64,
+    alternate: u64,
+    h: Hash,
+) -> u64
+    ensures { λ r. ⌜
+        (r ≡ done-flat (perform (changes (confirms-hedge owner alternate h)) (now (words .entry)) [] .answer))
+        × (now (words .exit) ≡ perform (changes (confirms-hedge owner alternate h)) (now (words .entry)) [] .words)
+        ⌝ }
+{
+    flat::of_accepted(window::confirm_cold_front_hedge(words, owner, alternate, h))
+}
+
+#[no_mangle]
+pub extern "C" fn kofudile_observe_blocked(
+    words: &mut [u64],
+    has_next: bool,
+    next: u32,
+    has_frontier: bool,
+    frontier: Hash,
+    busy: bool,
+    staged: u64,
+    has_highest: bool,
+    highest: u32,
+    clock: u64,
+) -> FlatBlocked
+    ensures { λ r. ⌜
+        (r ≡ blocked-flat (perform (changes (observes clock (look (height-if «has_next» next) (sought-if «has_frontier» frontier) busy staged (height-if «has_highest» highest)))) (now (words .entry)) [] .answer))
+        × (now (words .exit) ≡ perform (changes (observes clock (look (height-if «has_next» next) (sought-if «has_frontier» frontier) busy staged (height-if «has_highest» highest)))) (now (words .entry)) [] .words)
+        ⌝ }
+{
+    let at = flat::height_of(has_next, next);
+    let hash = flat::sought_of(has_frontier, frontier);
+    let top = flat::height_of(has_highest, highest);
+    flat::of_blocked(window::observe_blocked(words, at, hash, busy, staged, top, clock))
 }
 
 // ---- lent a report: the walks are written by tools/exports

@@ -36,8 +36,8 @@ places (refused n) = 0
 places (says n values) = n
 
 -- the promise, of the answer a, the words that are left and the flat words of what went
-abbrev pub Lets : Change → List ℕ → ℕ → Answer → List ℕ → List ℕ → Type 0
-Lets x ws room a ws′ gone =
+abbrev pub LetsGo : Change → List ℕ → ℕ → Answer → List ℕ → List ℕ → Type 0
+LetsGo x ws room a ws′ gone =
     (a ≡ answer-after (changes x) ws room)
     × (ws′ ≡ words-after (changes x) ws room)
     × (releases-of (places a) gone ≡ gone-after (changes x) ws room)
@@ -45,7 +45,7 @@ Lets x ws room a ws′ gone =
     × (places a ≤ 256)
 
 module _ (x : Change) (ws : List ℕ) (room n : ℕ) (e : n ≡ window-refusal (checks x) ws room) where
-  pub lets-refused : (gone : List ℕ) → (n ≡ 0 → ⊥) → Lets x ws room (refused n) ws gone
+  pub lets-refused : (gone : List ℕ) → (n ≡ 0 → ⊥) → LetsGo x ws room (refused n) ws gone
   unfolding releases-of
   lets-refused gone h = let l = leaves-refused (changes x) ws room n e h in (l .0, l .1, l .2, omega arith, omega arith)
 
@@ -57,7 +57,7 @@ module _ (x : Change) (ws : List ℕ) (room n : ℕ) (e : n ≡ window-refusal (
 
     module _ (k : ℕ) (gone : List ℕ) (few : k ≤ 256) where
       lets-done : (ws′ : List ℕ) → Holds (changed x (window-of ws) .window) ws′ → releases-of k gone ≡ changed x (window-of ws) .gone
-          → (a : Answer) → a ≡ says k (changed x (window-of ws) .values) → Lets x ws room a ws′ gone
+          → (a : Answer) → a ≡ says k (changed x (window-of ws) .values) → LetsGo x ws room a ws′ gone
       lets-done ws′ h g a q =
           let l = leaves-changed x ws room (sym z ∙ e) in
           let many : k ≡ length (changed x (window-of ws) .gone) = sym (length-releases k gone) ∙ ap length g in
@@ -71,7 +71,7 @@ module _ (x : Change) (ws : List ℕ) (room n : ℕ) (e : n ≡ window-refusal (
 
       -- with a clock: the step, then the clock
       pub lets-at : (c : ℕ) → checks x .moment ≡ at c → (ws₁ ws₂ : List ℕ) → Holds (change x c (window-of ws) .window) ws₁ → Holds (with-clock c (window-of ws₁)) ws₂
-          → releases-of k gone ≡ change x c (window-of ws) .gone → (a : Answer) → a ≡ says k (change x c (window-of ws) .values) → Lets x ws room a ws₂ gone
+          → releases-of k gone ≡ change x c (window-of ws) .gone → (a : Answer) → a ≡ says k (change x c (window-of ws) .values) → LetsGo x ws room a ws₂ gone
       unfolding changed read-clock
       lets-at c m ws₁ ws₂ h s g a q =
           let now : moment-of (checks x .moment) (window-of ws .clock) ≡ c = ap (λ (y : Moment). moment-of y (window-of ws .clock)) m in
@@ -85,7 +85,7 @@ module _ (x : Change) (ws : List ℕ) (room n : ℕ) (e : n ≡ window-refusal (
       -- without one: a step that leaves the clock
       pub lets-timeless : checks x .moment ≡ timeless → (ws₁ : List ℕ) → Holds (change x (window-of ws .clock) (window-of ws) .window) ws₁
           → change x (window-of ws .clock) (window-of ws) .window .clock ≡ window-of ws .clock
-          → releases-of k gone ≡ change x (window-of ws .clock) (window-of ws) .gone → (a : Answer) → a ≡ says k (change x (window-of ws .clock) (window-of ws) .values) → Lets x ws room a ws₁ gone
+          → releases-of k gone ≡ change x (window-of ws .clock) (window-of ws) .gone → (a : Answer) → a ≡ says k (change x (window-of ws .clock) (window-of ws) .values) → LetsGo x ws room a ws₁ gone
       unfolding changed
       lets-timeless m ws₁ h kept g a q =
           let last = window-of ws .clock in
@@ -126,7 +126,7 @@ retain-clock flags w =
 
 -- ---- with the report: m releases are written in its first places
 
-module _ (x : Change) (ws : List ℕ) (xs : List Release) (a : Answer) (zs gs : List ℕ) (e : Lets x ws (length xs) a zs gs) (m : ℕ) (q : m ≡ places a) where
+module _ (x : Change) (ws : List ℕ) (xs : List Release) (a : Answer) (zs gs : List ℕ) (e : LetsGo x ws (length xs) a zs gs) (m : ℕ) (q : m ≡ places a) where
   -- the writer has room, and words to read
   pub lets-fewer : length gs ≡ 2304 → (m ≤ length xs) × (9 * m ≤ length gs)
   lets-fewer l = (omega (arith, q, e .3), omega (arith, q, e .4, l))

@@ -1,19 +1,33 @@
 // The calls that let go, with their refusals, in lent words. What went is written, nine words each, in `gone`: the public call writes the lent report
 // from it. `room` is that report's length.
 ghost use mathlib.Core.Path.{_≡_};
+ghost use mathlib.Core.List.{[]};
 ghost use Prim.Native.Nat.{_≤_};
 ghost use lib.ListN.{length};
-ghost use Rattle.model.specs.Refusals.{changes, releases, requeues, rejects, expires, retires, retains};
-ghost use Rattle.model.specs.Perform.{answer-after, words-after, gone-after};
-ghost use Rattle.model.specs.Says.{let-go-says, rejected-says};
+ghost use Rattle.model.specs.Refusals.{changes, releases, requeues, rejects, expires, retires, retains, credits, receives};
+ghost use Rattle.model.specs.Perform.{says, answer-after, words-after, gone-after};
+ghost use Rattle.model.specs.Says.{let-go-says, rejected-says, received-says};
+ghost use Rattle.model.specs.Window.{with-clock};
+ghost use Rattle.model.specs.Layout.{window-of};
+ghost use Rattle.laws.specs.Whole.{Whole, Holds};
 ghost use Rattle.report_words.specs.Report.{releases-of};
 ghost use Rattle.heights.specs.Heights.{wide};
 ghost use Rattle.letting_go.specs.Letting.{places};
 use heights::Height32;
 use model::Hash;
 use model::LetGo;
+use model::Received;
 use model::Rejected;
 use model::Source;
+
+// The last clock is set last, and the answer counts what went.
+fn gone_at(words: &mut [u64], n: usize, moment: u64) -> LetGo
+    requires { ⌜ Whole (now words) ⌝ }
+    ensures { λ r. ⌜ (let-go-says r ≡ says n []) × Holds (with-clock moment (window-of (now (words .entry)))) (now (words .exit)) ⌝ }
+{
+    state::set_clock(words, moment);
+    LetGo::Gone(n as u64)
+}
 
 // `releases`
 pub fn release_pending(
@@ -37,8 +51,7 @@ pub fn release_pending(
         return LetGo::Refused(k);
     }
     let n = release::release_pending(words, gone, h, clock);
-    state::set_clock(words, clock);
-    LetGo::Gone(n as u64)
+    gone_at(words, n, clock)
 }
 
 // `requeues`
@@ -65,8 +78,7 @@ pub fn requeue_for_retry(
     }
     let height = heights::widened(named);
     let n = release::requeue_for_retry(words, gone, h, height, clock);
-    state::set_clock(words, clock);
-    LetGo::Gone(n as u64)
+    gone_at(words, n, clock)
 }
 
 // `rejects`
@@ -113,8 +125,7 @@ pub fn expire_pending(words: &mut [u64], room: usize, gone: &mut [u64], clock: u
         return LetGo::Refused(k);
     }
     let n = sweep::expire_pending(words, gone, clock);
-    state::set_clock(words, clock);
-    LetGo::Gone(n as u64)
+    gone_at(words, n, clock)
 }
 
 // `retires`
@@ -139,8 +150,7 @@ pub fn retire_before(
         return LetGo::Refused(k);
     }
     let n = sweep::retire_before(words, gone, height as u64, clock);
-    state::set_clock(words, clock);
-    LetGo::Gone(n as u64)
+    gone_at(words, n, clock)
 }
 
 // `retains`: it takes no clock, and leaves the last one
@@ -158,8 +168,67 @@ pub fn retain_owned_by(words: &mut [u64], room: usize, gone: &mut [u64], flags: 
     if k != 0 {
         return LetGo::Refused(k);
     }
-    let n = retain::retain_owned_by(words, gone, flags);
-    LetGo::Gone(n as u64)
+    let lost = retain::retain_owned_by(words, gone, flags);
+    LetGo::Gone(lost as u64)
+}
+
+// ---- deliveries
+
+// `credits`
+pub fn credit_delivery_from(
+    words: &mut [u64],
+    room: usize,
+    gone: &mut [u64],
+    h: Hash,
+    source: u64,
+    height: Height32,
+    clock: u64,
+) -> LetGo
+    requires { ⌜ length (now gone) ≡ 2304 ⌝ }
+    ensures { λ r. ⌜
+        (let-go-says r ≡ answer-after (changes (credits clock h source (wide height))) (now (words .entry)) room)
+        × (now (words .exit) ≡ words-after (changes (credits clock h source (wide height))) (now (words .entry)) room)
+        × (releases-of (places (let-go-says r)) (now (gone .exit)) ≡ gone-after (changes (credits clock h source (wide height))) (now (words .entry)) room)
+        × (places (let-go-says r) ≤ room)
+        × (places (let-go-says r) ≤ 256)
+        ⌝ }
+{
+    let k = admission::admits_report(words, room, clock, source <= 255);
+    if k != 0 {
+        return LetGo::Refused(k);
+    }
+    let pending = heights::widened(height);
+    let n = delivery_calls::credit_delivery_from(words, gone, h, source, pending, clock);
+    gone_at(words, n, clock)
+}
+
+// `receives`
+pub fn mark_received_from(
+    words: &mut [u64],
+    room: usize,
+    gone: &mut [u64],
+    h: Hash,
+    bytes: u64,
+    source: Source,
+    clock: u64,
+) -> Received
+    requires { ⌜ length (now gone) ≡ 2304 ⌝ }
+    ensures { λ r. ⌜
+        (received-says r ≡ answer-after (changes (receives clock h bytes source)) (now (words .entry)) room)
+        × (now (words .exit) ≡ words-after (changes (receives clock h bytes source)) (now (words .entry)) room)
+        × (releases-of (places (received-says r)) (now (gone .exit)) ≡ gone-after (changes (receives clock h bytes source)) (now (words .entry)) room)
+        × (places (received-says r) ≤ room)
+        × (places (received-says r) ≤ 256)
+        ⌝ }
+{
+    let p = admission::source_ok(source);
+    let k = admission::admits_body(words, room, clock, p, bytes);
+    if k != 0 {
+        return Received::Refused(k);
+    }
+    let r = delivery_calls::mark_received_from(words, gone, h, bytes, source, clock);
+    state::set_clock(words, clock);
+    r
 }
 
 // ---- how many places of the report an answer counts
@@ -180,5 +249,15 @@ pub fn places_of_rejected(r: Rejected) -> usize
         Rejected::Refused(_) => 0,
         Rejected::ReleasedPending(n) => n as usize,
         Rejected::DiscardedUnsolicited => 0,
+    }
+}
+
+pub fn places_of_received(r: Received) -> usize
+    ensures { λ n. ⌜ n ≡ places (received-says r) ⌝ }
+{
+    match r {
+        Received::Refused(_) => 0,
+        Received::Unasked(n) => n as usize,
+        Received::Expected(n, _) => n as usize,
     }
 }

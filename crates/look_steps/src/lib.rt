@@ -14,6 +14,7 @@ ghost use Rattle.laws.specs.Sound.{Sound};
 ghost use Rattle.laws.specs.Whole.{Whole, Holds};
 ghost use Rattle.watch.specs.Answers.{blocked-of};
 ghost use Rattle.look_steps.specs.Steps.{Blames};
+use lent_pace::Turn;
 use model::Blocked;
 use model::Entry;
 use model::Front;
@@ -77,7 +78,7 @@ fn stall_at(words: &mut [u64], e: Entry, clock: u64) -> Source
         state::set_stall(words, Stall::Episode(owner, h, since));
         return Source::Missing;
     }
-    let widened = pace::wait_widened(b, p);
+    let widened = lent_pace::changed(Turn::Blame, p, b, clock);
     end_stall(words, widened, owner as usize, clock);
     Source::From(owner)
 }

@@ -6,6 +6,7 @@ ghost use Rattle.model.specs.Layout.{decode};
 ghost use Rattle.laws.specs.Tables.{with-keys};
 ghost use Rattle.laws.specs.Whole.{Holds};
 ghost use Rattle.opening.specs.Blank.{blank-table};
+use lent_pace::Turn;
 use model::Settings;
 
 // `blank-table`
@@ -29,7 +30,8 @@ pub fn open(words: &mut [u64], clock: u64, b: Settings, keys: &[u64])
     ensures { λ _. ⌜ Holds (opened clock b (now (keys .entry))) (now (words .exit)) ⌝ }
 {
     let counts = [1, 0, clock, 0, 0, 0, 262144, 1];
-    let p = pace::pace_opened(b);
+    let old = layout::load_pace(words);
+    let p = lent_pace::changed(Turn::Opening, old, b, clock);
     clear(words);
     set_keys(words, keys);
     layout::store_at(words, 0, &counts);

@@ -58,7 +58,7 @@ pub fn put_one(words: &mut [u64], h: Hash, owner: u64, height: u64, clock: u64)
 // ---- the list
 
 // How many asks two slices of these lengths hold whole.
-fn asked(hashes: usize, heights: usize) -> usize
+pub fn asked(hashes: usize, heights: usize) -> usize
     ensures { λ r. ⌜ r ≡ lesser (hashes / 4) heights ⌝ }
 {
     let n = hashes / 4;
@@ -69,7 +69,7 @@ fn asked(hashes: usize, heights: usize) -> usize
 }
 
 // `hash-in`: the hash whose four words start at k.
-fn hash_in(hashes: &[u64], k: usize) -> Hash
+pub fn hash_in(hashes: &[u64], k: usize) -> Hash
     requires { ⌜ k + 4 ≤ length (now hashes) ⌝ }
     ensures { λ r. ⌜ r ≡ hash-in (now (hashes .entry)) k ⌝ }
 {

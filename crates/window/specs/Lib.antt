@@ -1,1 +1,4 @@
 pub mod Changes
+pub mod Opening
+pub mod Requests
+pub mod Plain

@@ -1,19 +1,23 @@
 // THE PUBLIC CRATE: every call with its refusals, on the lent words. No function has a `requires`.
 ghost use mathlib.Core.Path.{_≡_};
 ghost use mathlib.Core.List.{[]};
-ghost use Rattle.model.specs.Refusals.{releases, requeues, rejects, expires, retires, retains};
-ghost use Rattle.model.specs.Refusals.{changes, clears-preferred, credits-duplicate, sets-fanout, marks-unresponsive, fetches};
+ghost use Rattle.model.specs.Refusals.{changes, clears-preferred, credits-duplicate, sets-fanout, marks-unresponsive, fetches, opens, requests, releases, requeues, rejects, expires, retires, retains, credits, receives, confirms-hedge, confirms-probe, observes};
 ghost use Rattle.model.specs.Perform.{perform};
-ghost use Rattle.model.specs.Says.{accepted-says, fetch-says};
-ghost use Rattle.model.specs.Says.{let-go-says, rejected-says};
+ghost use Rattle.model.specs.Says.{accepted-says, fetch-says, requested-says, let-go-says, rejected-says, received-says, blocked-says};
 ghost use Rattle.heights.specs.Heights.{wide};
+ghost use Rattle.observation.specs.Look.{look};
 use heights::Height32;
 use model::Accepted;
+use model::Blocked;
 use model::Fetch;
 use model::Hash;
 use model::LetGo;
+use model::Received;
 use model::Rejected;
 use model::Release;
+use model::Requested;
+use model::Settings;
+use model::Sought;
 use model::Source;
 use report::write_report;
 
@@ -106,6 +110,57 @@ pub fn mark_owned_fetch(
     );
     state::set_clock(words, clock);
     r
+}
+
+// ---- the opening and the request
+
+pub fn open(words: &mut [u64], settings: Settings, keys: &[u64], clock: u64) -> Accepted
+    ensures { λ r. ⌜
+        (accepted-says r ≡ perform (opens clock settings (now (keys .entry))) (now (words .entry)) [] .answer)
+        × (now (words .exit) ≡ perform (opens clock settings (now (keys .entry))) (now (words .entry)) [] .words)
+        ⌝ }
+{
+    let n = admission::admits_opening(words, clock, settings, keys);
+    if n != 0 {
+        return Accepted::Refused(n);
+    }
+    opening::open(words, clock, settings, keys);
+    Accepted::Done
+}
+
+pub fn mark_requested(
+    words: &mut [u64],
+    owner: u64,
+    hashes: &[u64],
+    heights: &[u32],
+    next: u32,
+    byte_headroom: u64,
+    count_headroom: u64,
+    clock: u64,
+) -> Requested
+    ensures { λ r. ⌜
+        (requested-says r ≡ perform (changes (requests clock owner (now (hashes .entry)) (now (heights .entry)) next «byte_headroom» «count_headroom»)) (now (words .entry)) [] .answer)
+        × (now (words .exit) ≡ perform (changes (requests clock owner (now (hashes .entry)) (now (heights .entry)) next «byte_headroom» «count_headroom»)) (now (words .entry)) [] .words)
+        ⌝ }
+{
+    let k = admission::admits_at(words, clock, owner <= 255);
+    if k != 0 {
+        return Requested::Refused(k);
+    }
+    let n = request_calls::request_refusal(words, hashes, heights);
+    if n != 0 {
+        return Requested::Refused(n);
+    }
+    request_calls::request(
+        words,
+        owner,
+        hashes,
+        heights,
+        next,
+        byte_headroom,
+        count_headroom,
+        clock,
+    )
 }
 
 // ---- calls that let go, with the lent report. All branching is in `letting_go`; on a refusal the writer writes nothing. tools/lets writes their proofs.
@@ -204,4 +259,117 @@ pub fn retain_owned_by(words: &mut [u64], report: &mut [Release], flags: &[u64])
     let n = letting_go::places_of(r);
     let m = write_report(report, &gone, n);
     r
+}
+
+pub fn credit_delivery_from(
+    words: &mut [u64],
+    report: &mut [Release],
+    h: Hash,
+    source: u64,
+    height: Height32,
+    clock: u64,
+) -> LetGo
+    ensures { λ r. ⌜
+        (let-go-says r ≡ perform (changes (credits clock h source (wide height))) (now (words .entry)) (now (report .entry)) .answer)
+        × (now (words .exit) ≡ perform (changes (credits clock h source (wide height))) (now (words .entry)) (now (report .entry)) .words)
+        × (now (report .exit) ≡ perform (changes (credits clock h source (wide height))) (now (words .entry)) (now (report .entry)) .report)
+        ⌝ }
+{
+    let mut gone: [u64; 2304] = [0; 2304];
+    let r = letting_go::credit_delivery_from(
+        words,
+        report.len(),
+        &mut gone,
+        h,
+        source,
+        height,
+        clock,
+    );
+    let n = letting_go::places_of(r);
+    let m = write_report(report, &gone, n);
+    r
+}
+
+pub fn mark_received_from(
+    words: &mut [u64],
+    report: &mut [Release],
+    h: Hash,
+    bytes: u64,
+    source: Source,
+    clock: u64,
+) -> Received
+    ensures { λ r. ⌜
+        (received-says r ≡ perform (changes (receives clock h bytes source)) (now (words .entry)) (now (report .entry)) .answer)
+        × (now (words .exit) ≡ perform (changes (receives clock h bytes source)) (now (words .entry)) (now (report .entry)) .words)
+        × (now (report .exit) ≡ perform (changes (receives clock h bytes source)) (now (words .entry)) (now (report .entry)) .report)
+        ⌝ }
+{
+    let mut gone: [u64; 2304] = [0; 2304];
+    let r = letting_go::mark_received_from(words, report.len(), &mut gone, h, bytes, source, clock);
+    let n = letting_go::places_of_received(r);
+    let m = write_report(report, &gone, n);
+    r
+}
+
+// ---- the hedge, the look and the probe
+
+pub fn confirm_cold_front_hedge(words: &mut [u64], owner: u64, alternate: u64, h: Hash) -> Accepted
+    ensures { λ r. ⌜
+        (accepted-says r ≡ perform (changes (confirms-hedge owner alternate h)) (now (words .entry)) [] .answer)
+        × (now (words .exit) ≡ perform (changes (confirms-hedge owner alternate h)) (now (words .entry)) [] .words)
+        ⌝ }
+{
+    let n = admission::admits(words, (owner <= 255) & (alternate <= 255));
+    if n != 0 {
+        return Accepted::Refused(n);
+    }
+    cold_front::confirm_cold_front_hedge(words, owner, alternate, h);
+    Accepted::Done
+}
+
+pub fn observe_blocked(
+    words: &mut [u64],
+    next: Height32,
+    frontier: Sought,
+    busy: bool,
+    staged: u64,
+    highest: Height32,
+    clock: u64,
+) -> Blocked
+    ensures { λ r. ⌜
+        (blocked-says r ≡ perform (changes (observes clock (look (wide next) frontier busy staged (wide highest)))) (now (words .entry)) [] .answer)
+        × (now (words .exit) ≡ perform (changes (observes clock (look (wide next) frontier busy staged (wide highest)))) (now (words .entry)) [] .words)
+        ⌝ }
+{
+    let k = admission::admits_at(words, clock, true);
+    if k != 0 {
+        return Blocked::Refused(k);
+    }
+    let at = heights::widened(next);
+    let top = heights::widened(highest);
+    let r = observation::observe_blocked(words, at, frontier, busy, staged, top, clock);
+    state::set_clock(words, clock);
+    r
+}
+
+pub fn confirm_prefix_probe(
+    words: &mut [u64],
+    owner: u64,
+    given: &[u64],
+    alternates: &[u64],
+    clock: u64,
+) -> Accepted
+    ensures { λ r. ⌜
+        (accepted-says r ≡ perform (changes (confirms-probe clock owner (now (given .entry)) (now (alternates .entry)))) (now (words .entry)) [] .answer)
+        × (now (words .exit) ≡ perform (changes (confirms-probe clock owner (now (given .entry)) (now (alternates .entry)))) (now (words .entry)) [] .words)
+        ⌝ }
+{
+    let seats = admission::alternates_ok(alternates);
+    let n = admission::admits_at(words, clock, (owner <= 255) & seats);
+    if n != 0 {
+        return Accepted::Refused(n);
+    }
+    probe_confirm::confirm_prefix_probe(words, owner, given, alternates, clock);
+    state::set_clock(words, clock);
+    Accepted::Done
 }

@@ -2,13 +2,22 @@
 ghost use mathlib.Core.Path.{_≡_};
 ghost use mathlib.Core.List.{[]};
 ghost use Rattle.model.specs.Refusals.{queries};
-ghost use Rattle.model.specs.Queries.{reads, pending-len, pending-bytes, asks-expired-capacity, stall-timeout, max-pending-blocks, min-peers-for-fanout, fanout-active, pending-high-water, stalling-peer, peer-inflight, active-peers, decay-floor, request-cursor, ewma-block-bytes, asks-request-capacity, asks-contains, asks-count-for, asks-downloading, owner-timeout, asks-hedge-offered, asks-has-expired, asks-cooldown};
-ghost use Rattle.model.specs.Perform.{perform};
-ghost use Rattle.model.specs.Says.{number-says, pair-says, perhaps-pair-says, truth-says};
+ghost use Rattle.model.specs.Queries.{reads, perhaps, source-values, probe-values, capacity-values, preferred-peer, probe-plan, probe-start, front-interval-ewma-ms, asks-owner, asks-queue-start, asks-compute-capacity, asks-probe-offered, pending-len, pending-bytes, asks-expired-capacity, stall-timeout, max-pending-blocks, min-peers-for-fanout, fanout-active, pending-high-water, stalling-peer, peer-inflight, active-peers, decay-floor, request-cursor, ewma-block-bytes, asks-request-capacity, asks-contains, asks-count-for, asks-downloading, owner-timeout, asks-hedge-offered, asks-has-expired, asks-cooldown};
+ghost use Rattle.model.specs.Perform.{says, perform};
+ghost use Rattle.model.specs.Says.{number-says, pair-says, perhaps-says, perhaps-pair-says, plan-says, truth-says};
+ghost use Rattle.model.specs.Lists.{pad};
+ghost use Rattle.capacity.specs.OnNumbers.{batch-says};
+ghost use Rattle.plans.specs.Rows.{rows-words};
+ghost use Rattle.window_queries.specs.Plan.{hash-part};
+use capacity::Batch;
 use model::Hash;
 use model::Number;
 use model::Pair;
+use model::Perhaps;
 use model::PerhapsPair;
+use model::Plan;
+use model::Probe;
+use model::Source;
 use model::Truth;
 
 // How many blocks are pending.
@@ -288,4 +297,158 @@ pub fn expired_pending_capacity(words: &[u64], clock: u64) -> Pair
     }
     let f = sweep::expired_pending_capacity(words, clock);
     Pair::Both(f.blocks, f.bytes)
+}
+
+// ---- what may be missing
+
+// A stored number, 0 for none.
+fn perhaps_stored(x: u64) -> Perhaps
+    ensures { λ r. ⌜ perhaps-says r ≡ says 0 (perhaps x) ⌝ }
+{
+    if x == 0 {
+        return Perhaps::Absent;
+    }
+    Perhaps::Present(x - 1)
+}
+
+fn perhaps_seat(s: Source) -> Perhaps
+    ensures { λ r. ⌜ perhaps-says r ≡ says 0 (source-values s) ⌝ }
+{
+    match s {
+        Source::Missing => Perhaps::Absent,
+        Source::From(seat) => Perhaps::Present(seat),
+    }
+}
+
+fn perhaps_started(p: Probe) -> Perhaps
+    ensures { λ r. ⌜ perhaps-says r ≡ says 0 (probe-values p) ⌝ }
+{
+    match p {
+        Probe::NoProbe => Perhaps::Absent,
+        Probe::Probing(_, _, started) => Perhaps::Present(started),
+    }
+}
+
+fn perhaps_batch(b: Batch) -> PerhapsPair
+    ensures { λ r. ⌜ perhaps-pair-says r ≡ says 0 (capacity-values (batch-says b)) ⌝ }
+{
+    match b {
+        Batch::Nothing => PerhapsPair::Neither,
+        Batch::Upto(blocks, bytes) => PerhapsPair::Together(blocks, bytes),
+    }
+}
+
+// The seat that is asked first, where there is one.
+pub fn preferred_peer(words: &[u64]) -> Perhaps
+    ensures { λ r. ⌜ perhaps-says r ≡ perform (queries (reads preferred-peer)) (now (words .entry)) [] .answer ⌝ }
+{
+    let n = admission::admits(words, true);
+    if n != 0 {
+        return Perhaps::Refused(n);
+    }
+    let s = state::get_preferred(words);
+    perhaps_seat(s)
+}
+
+// The seat that the block of a hash is pending with, if it is pending.
+pub fn pending_owner(words: &[u64], h: Hash) -> Perhaps
+    ensures { λ r. ⌜ perhaps-says r ≡ perform (queries (asks-owner h)) (now (words .entry)) [] .answer ⌝ }
+{
+    let n = admission::admits(words, true);
+    if n != 0 {
+        return Perhaps::Refused(n);
+    }
+    let s = queries::pending_owner(words, h);
+    perhaps_seat(s)
+}
+
+// When the prefix probe started, if one runs.
+pub fn active_prefix_probe_started_at(words: &[u64]) -> Perhaps
+    ensures { λ r. ⌜ perhaps-says r ≡ perform (queries (reads probe-start)) (now (words .entry)) [] .answer ⌝ }
+{
+    let n = admission::admits(words, true);
+    if n != 0 {
+        return Perhaps::Refused(n);
+    }
+    let p = state_races::get_probe(words);
+    perhaps_started(p)
+}
+
+// The mean time between fronts, once there was one.
+pub fn front_interval_ewma_ms(words: &[u64]) -> Perhaps
+    ensures { λ r. ⌜ perhaps-says r ≡ perform (queries (reads front-interval-ewma-ms)) (now (words .entry)) [] .answer ⌝ }
+{
+    let n = admission::admits(words, true);
+    if n != 0 {
+        return Perhaps::Refused(n);
+    }
+    let p = state::get_pace(words);
+    perhaps_stored(p.mean)
+}
+
+// Since when a seat has blocks pending, if it has.
+pub fn owner_queue_start(words: &[u64], seat: u64) -> Perhaps
+    ensures { λ r. ⌜ perhaps-says r ≡ perform (queries (asks-queue-start seat)) (now (words .entry)) [] .answer ⌝ }
+{
+    let n = admission::admits(words, seat <= 255);
+    if n != 0 {
+        return Perhaps::Refused(n);
+    }
+    let t = state::start_of(words, seat as usize);
+    perhaps_stored(t)
+}
+
+// How many blocks, and bytes, may be asked of a seat at once, if any.
+pub fn compute_request_capacity(
+    words: &[u64],
+    source: u64,
+    byte_headroom: u64,
+    count_headroom: u64,
+) -> PerhapsPair
+    ensures { λ r. ⌜ perhaps-pair-says r ≡ perform (queries (asks-compute-capacity source «byte_headroom» «count_headroom»)) (now (words .entry)) [] .answer ⌝ }
+{
+    let n = admission::admits(words, source <= 255);
+    if n != 0 {
+        return PerhapsPair::Refused(n);
+    }
+    let b = queries::compute_request_capacity(words, source, byte_headroom, count_headroom);
+    perhaps_batch(b)
+}
+
+// Whether this hash is offered to a seat by the probe.
+pub fn probe_offered(words: &[u64], source: u64, h: Hash) -> Truth
+    ensures { λ r. ⌜ truth-says r ≡ perform (queries (asks-probe-offered source h)) (now (words .entry)) [] .answer ⌝ }
+{
+    let n = admission::admits(words, source <= 255);
+    if n != 0 {
+        return Truth::Refused(n);
+    }
+    if probe_plan::probe_offered(words, source, h) {
+        return Truth::Affirmed;
+    }
+    Truth::Denied
+}
+
+// ---- the plan of a prefix probe: its three numbers, and its hashes
+
+pub fn prefix_probe_plan(words: &[u64]) -> Plan
+    ensures { λ r. ⌜ plan-says r (hash-part (perform (queries (reads probe-plan)) (now (words .entry)) [] .answer)) ≡ perform (queries (reads probe-plan)) (now (words .entry)) [] .answer ⌝ }
+{
+    let n = admission::admits(words, true);
+    if n != 0 {
+        return Plan::Refused(n);
+    }
+    probe_plan::prefix_probe_plan(words)
+}
+
+// The planned hashes in the first rows, and 0 in the others; where the other refuses or has no plan, in all. `plan-whole` says that the two
+// together are the answer.
+pub fn prefix_probe_hashes(words: &[u64]) -> [[u64; 4]; 8]
+    ensures { λ r. ⌜ rows-words 8 r ≡ pad 32 0 (hash-part (perform (queries (reads probe-plan)) (now (words .entry)) [] .answer)) ⌝ }
+{
+    let n = admission::admits(words, true);
+    if n != 0 {
+        return [[0; 4]; 8];
+    }
+    probe_hashes::prefix_probe_hashes(words)
 }

@@ -262,7 +262,7 @@ impl Lent {
             Query::StallTimeout => number(unsafe { kofudile_stall_timeout(w, n) }, plain),
             Query::FrontIntervalEwmaMs => perhaps(unsafe { kofudile_front_interval_ewma_ms(w, n) }),
             Query::EwmaBlockBytes => number(unsafe { kofudile_ewma_block_bytes(w, n) }, plain),
-            Query::ProbeStartedAt => perhaps(unsafe { kofudile_probe_start(w, n) }),
+            Query::ProbeStartedAt => perhaps(unsafe { kofudile_active_prefix_probe_started_at(w, n) }),
             other => unreachable!("{other:?} is no query without seat and clock"),
         }
     }

@@ -16,7 +16,7 @@ pub fn lacks(kind: &str) -> bool {
         }
         name.extend(letter.to_lowercase());
     }
-    let name = name.replace("probe_started_at", "probe_start");
+    let name = name.replace("probe_started_at", "active_prefix_probe_started_at");
     MISSING.contains(&name.as_str())
 }
 

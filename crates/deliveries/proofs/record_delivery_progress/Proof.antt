@@ -25,8 +25,8 @@ get-settings-requires c κs = search needs
 get-pace-requires : tie.Need-get-pace-requires
 get-pace-requires c κs = search needs
 
-front-recorded-requires : tie.Need-front-recorded-requires
-front-recorded-requires c κs =
+changed-requires : tie.Need-changed-requires
+changed-requires c κs =
     let g = c .before .before .before .before .before .before .before .before .pre .1 in
     (g .clock, omega (arith, ap (λ (p : Pace). p .mean) (c .get-pace .ensures), g .pace .mean), omega (arith, ap (λ (p : Pace). p .wait) (c .get-pace .ensures), g .pace .wait))
 
@@ -52,7 +52,7 @@ returns c =
     let a = c .before .before .before .before .before .before .before .before .before .before .before .before .before .before .before .before .before .before .before .before .args in
     let w = window-of (a .words .now) in
     let calm = by-value (λ x. with-stall x w) (c .before .before .before .before .before .before .before .before .before .before .before .before .before .before .before .before .unless-stalled .ensures ∙ ap (unless-stalled (a .h) (a .source)) (c .before .before .before .before .before .before .before .before .before .before .before .before .before .before .before .before .before .get-stall .ensures)) (c .before .before .before .before .before .before .before .set-stall .ensures) in
-    let paced = c .before .before .before .before .before .before .before .before .before .before .before .front-recorded .ensures ∙ (λ i. front-recorded (c .before .before .before .before .before .before .before .before .before .before .before .before .before .before .get-settings .ensures i) (a .clock) (c .before .before .before .before .before .before .before .before .before .before .before .before .get-pace .ensures i)) in
+    let paced = c .before .before .before .before .before .before .before .before .before .before .before .changed .ensures ∙ (λ i. front-recorded (c .before .before .before .before .before .before .before .before .before .before .before .before .before .before .get-settings .ensures i) (a .clock) (c .before .before .before .before .before .before .before .before .before .before .before .before .get-pace .ensures i)) in
     rw (sym (c .before .before .before .before .before .before .before .before .before .was-front .ensures) ∙ c .before .before .before .before .if1 .taken) (then (λ v. with-pace (front-recorded (w .settings) (a .clock) (w .pace)) v) calm (by-value (λ p. with-pace p (window-of (c .before .before .before .before .before .before .before .set-stall .last .0))) paced (c .before .before .set-pace .ensures)))
 
 same-length-2 : tie.Need-same-length-2
@@ -73,7 +73,7 @@ record-delivery-progress-spec =
     unless-stalled-requires
     get-settings-requires
     get-pace-requires
-    front-recorded-requires
+    changed-requires
     was-front-requires
     set-stall-requires
     set-pace-requires

@@ -34,8 +34,8 @@ expire-pending-requires c κs =
     let g = admitted (checks x) ws (a .room) (k .result) (k .ensures) (c .before .before .if1 .left) in
     (g .whole, (g .sound-at, c .before .before .before .before .before .before .before .pre))
 
-set-clock-requires : tie.Need-set-clock-requires
-set-clock-requires c κs = c .before .before .before .before .before .expire-pending .ensures .1 .whole
+gone-at-requires : tie.Need-gone-at-requires
+gone-at-requires c κs = c .before .before .before .before .before .expire-pending .ensures .1 .whole
 
 same-length-2 : tie.Need-same-length-2
 same-length-2 c = search needs
@@ -50,8 +50,8 @@ returns-2 c =
     let x : Change = expires (a .clock) in
     let k = c .before .before .before .before .before .before .before .before .before .before .before .before .admits-report in
     let p = c .before .before .before .before .before .before .before .before .expire-pending in
-    let s = c .before .before .set-clock in
-    lets-at x ws (a .room) (k .result) (k .ensures) (c .before .before .before .before .before .before .before .before .before .before .before .if1 .left) refl (p .result) (p .last .1 .0) (omega (arith, p .ensures .0)) (a .clock) refl (p .last .0) (s .last .0) (p .ensures .1) (s .ensures) (p .ensures .2) _ refl
+    let s = c .before .before .gone-at in
+    lets-at x ws (a .room) (k .result) (k .ensures) (c .before .before .before .before .before .before .before .before .before .before .before .if1 .left) refl (p .result) (p .last .1 .0) (omega (arith, p .ensures .0)) (a .clock) refl (p .last .0) (s .last .0) (p .ensures .1) (s .ensures .1) (p .ensures .2) _ (s .ensures .0)
 
 pub expire-pending-spec : {M : Type 1} → statement M
-expire-pending-spec = tie.close (tie.spec admits-report-requires same-length returns expire-pending-requires set-clock-requires same-length-2 same-length-3 returns-2)
+expire-pending-spec = tie.close (tie.spec admits-report-requires same-length returns expire-pending-requires gone-at-requires same-length-2 same-length-3 returns-2)

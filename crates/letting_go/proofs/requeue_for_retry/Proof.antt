@@ -43,8 +43,8 @@ requeue-for-retry-requires c κs =
     let g = admitted (checks x) ws (a .room) (k .result) (k .ensures) (c .before .before .before .if1 .left) in
     (g .whole, (g .sound-at, c .before .before .before .before .before .before .before .before .pre))
 
-set-clock-requires : tie.Need-set-clock-requires
-set-clock-requires c κs = c .before .before .before .before .before .requeue-for-retry .ensures .1 .whole
+gone-at-requires : tie.Need-gone-at-requires
+gone-at-requires c κs = c .before .before .before .before .before .requeue-for-retry .ensures .1 .whole
 
 same-length-2 : tie.Need-same-length-2
 same-length-2 c = search needs
@@ -59,12 +59,12 @@ returns-2 c =
     let x : Change = requeues (a .clock) (a .h) (wide (a .named)) in
     let k = c .before .before .before .before .before .before .before .before .before .before .before .before .before .admits-report in
     let p = c .before .before .before .before .before .before .before .before .requeue-for-retry in
-    let s = c .before .before .set-clock in
+    let s = c .before .before .gone-at in
     let height = c .before .before .before .before .before .before .before .before .before .before .before .widened .result in
     let named : height ≡ wide (a .named) = c .before .before .before .before .before .before .before .before .before .before .before .widened .ensures .0 in
     lets-at x ws (a .room) (k .result) (k .ensures) (c .before .before .before .before .before .before .before .before .before .before .before .before .if1 .left) refl (p .result) (p .last .1 .0) (omega (arith, p .ensures .0)) (a .clock) refl (p .last .0) (s .last .0)
-    (subst (λ (y : Height). Holds (requeue-for-retry (a .h) y (a .clock) (window-of ws) .window) (p .last .0)) named (p .ensures .1)) (s .ensures)
-    (subst (λ (y : Height). releases-of (p .result) (p .last .1 .0) ≡ requeue-for-retry (a .h) y (a .clock) (window-of ws) .gone) named (p .ensures .2)) _ refl
+    (subst (λ (y : Height). Holds (requeue-for-retry (a .h) y (a .clock) (window-of ws) .window) (p .last .0)) named (p .ensures .1)) (s .ensures .1)
+    (subst (λ (y : Height). releases-of (p .result) (p .last .1 .0) ≡ requeue-for-retry (a .h) y (a .clock) (window-of ws) .gone) named (p .ensures .2)) _ (s .ensures .0)
 
 pub requeue-for-retry-spec : {M : Type 1} → statement M
-requeue-for-retry-spec = tie.close (tie.spec admits-report-requires same-length returns widened-requires requeue-for-retry-requires set-clock-requires same-length-2 same-length-3 returns-2)
+requeue-for-retry-spec = tie.close (tie.spec admits-report-requires same-length returns widened-requires requeue-for-retry-requires gone-at-requires same-length-2 same-length-3 returns-2)

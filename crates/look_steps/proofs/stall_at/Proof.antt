@@ -57,8 +57,8 @@ returns c =
     let test = sym (λ i. ltb (c .before .before .before .before .before .before .minus .ensures i) (wait i)) ∙ lt-ltb _ _ (c .before .before .before .before .before .if1 .taken) in
     stall-goes (a .e) (a .clock) w (c .before .before .before .before .before .before .before .before .stalled-since .ensures ∙ ap (λ (s : Stall). stalled-since s (a .e) (a .clock)) (c .before .before .before .before .before .before .before .before .before .get-stall .ensures)) test (c .before .before .set-stall .ensures)
 
-wait-widened-requires : tie.Need-wait-widened-requires
-wait-widened-requires c κs =
+changed-requires : tie.Need-changed-requires
+changed-requires c κs =
     let g = c .before .before .before .before .before .before .before .before .before .before .before .pre .1 in
     (rw (c .before .before .before .before .before .before .get-pace .ensures) (g .pace .mean), rw (c .before .before .before .before .before .before .get-pace .ensures) (g .pace .wait), rw (c .before .before .before .before .before .before .before .before .get-settings .ensures) (most-le _ (g .settings)))
 
@@ -76,7 +76,7 @@ returns-2 c =
     let w = window-of (a .words .now) in
     let wait = c .before .before .before .before .before .before .before .effective-stall-timeout .ensures ∙ (λ i. effective-stall-timeout (c .before .before .before .before .before .before .before .before .before .before .before .before .before .get-settings .ensures i) (c .before .before .before .before .before .before .before .before .before .before .before .get-pace .ensures i)) in
     let test = sym (λ i. ltb (c .before .before .before .before .before .before .minus .ensures i) (wait i)) ∙ le-ltb _ _ (c .before .before .before .before .before .if1 .left) in
-    let widened = c .before .before .before .before .wait-widened .ensures ∙ (λ i. wait-widened (c .before .before .before .before .before .before .before .before .before .before .before .before .before .get-settings .ensures i) (c .before .before .before .before .before .before .before .before .before .before .before .get-pace .ensures i)) in
+    let widened = c .before .before .before .before .changed .ensures ∙ (λ i. wait-widened (c .before .before .before .before .before .before .before .before .before .before .before .before .before .get-settings .ensures i) (c .before .before .before .before .before .before .before .before .before .before .before .get-pace .ensures i)) in
     let h = subst (λ (p : Pace). Holds (mark-peer-unresponsive (a .e .owner) (a .clock) (with-pace p (with-stall Calm w))) (c .before .before .end-stall .last .0)) widened (c .before .before .end-stall .ensures) in
     stall-fires (a .e) (a .clock) w (c .before .before .before .before .before .before .before .before .stalled-since .ensures ∙ ap (λ (s : Stall). stalled-since s (a .e) (a .clock)) (c .before .before .before .before .before .before .before .before .before .get-stall .ensures)) test h
 
@@ -93,7 +93,7 @@ stall-at-spec =
     set-stall-requires
     same-length
     returns
-    wait-widened-requires
+    changed-requires
     end-stall-requires
     same-length-2
     returns-2)

@@ -11,8 +11,11 @@ use borrow.Author.Needs.{needs}
 use Rattle.opening.proofs.open.Statement.{statement}
 use Rattle.opening.proofs.open.Tie as tie
 
-pace-opened-requires : tie.Need-pace-opened-requires
-pace-opened-requires c κs = search needs
+load-pace-requires : tie.Need-load-pace-requires
+load-pace-requires c κs = search needs
+
+changed-requires : tie.Need-changed-requires
+changed-requires c κs = search needs
 
 clear-requires : tie.Need-clear-requires
 clear-requires c κs = search needs
@@ -37,20 +40,21 @@ same-length c = search needs
 
 returns : tie.Need-returns
 returns c =
-    let s = c .before .before .before .before .before .before .before .before .before .before .before .before .before .before .before .before .before .before .before .before .before .before .before .before in
+    let s = c .before .before .before .before .before .before .before .before .before .before .before .before .before .before .before .before .before .before .before .before .before .before .before .before .before .before in
     let a = s .args in
     let first : List ℕ = 1 ∷ 0 ∷ a .clock ∷ 0 ∷ 0 ∷ 0 ∷ 262144 ∷ 1 ∷ [] in
     let keyed = c .before .before .before .before .before .before .before .before .before .before .before .before .before .before .before .set-keys .ensures ∙ ap (with-keys (a .keys .now)) (c .before .before .before .before .before .before .before .before .before .before .before .before .before .before .before .before .before .before .before .clear .ensures) in
     let counted = c .before .before .before .before .before .before .before .before .before .before .store-at .ensures ∙ ap (with-words 0 first) keyed in
     let set = c .before .before .before .before .before .before .store-settings .ensures ∙ ap (with-words 8 (settings-words (a .b))) counted in
-    let paced = c .before .before .store-pace .ensures ∙ (λ i. with-words 22 (pace-list (c .before .before .before .before .before .before .before .before .before .before .before .before .before .before .before .before .before .before .before .before .before .pace-opened .ensures i)) (set i)) in
+    let paced = c .before .before .store-pace .ensures ∙ (λ i. with-words 22 (pace-list (c .before .before .before .before .before .before .before .before .before .before .before .before .before .before .before .before .before .before .before .before .before .changed .ensures i)) (set i)) in
     opened-holds (a .clock) (a .b) (a .keys .now) _ (s .pre .1) (c .before .before .store-pace .kept .0 ∙ c .before .before .before .before .before .before .store-settings .kept .0 ∙ c .before .before .before .before .before .before .before .before .before .before .store-at .kept .0 ∙ c .before .before .before .before .before .before .before .before .before .before .before .before .before .before .before .set-keys .kept .0 ∙ c .before .before .before .before .before .before .before .before .before .before .before .before .before .before .before .before .before .before .before .clear .kept .0 ∙ s .pre .0) (paced ∙ opened-in (a .clock) (a .b) (a .keys .now))
 
 pub open-spec : {M : Type 1} → statement M
 open-spec =
     tie.close
     (tie.spec
-    pace-opened-requires
+    load-pace-requires
+    changed-requires
     clear-requires
     set-keys-requires
     slice-aggregate-store-at

@@ -1,14 +1,8 @@
 -- `window_queries::contains_pending` meets its contract. Assumes nothing.
-use mathlib.Core.Path.{_≡_, refl, sym, ap, _∙_}
-use mathlib.Core.Bool.{Bool, true, false}
-use mathlib.Core.List.{[], _∷_}
-use Prim.Native.Nat.{ℕ}
-use Rattle.model.specs.Layout.{window-of}
-use Rattle.model.specs.Queries.{Query, reads, asks-contains, flag, query-values}
-use Rattle.model.specs.Refusals.{query-checks}
-use Rattle.model.specs.Perform.{says}
+use mathlib.Core.Path.{sym, ap, _∙_}
 use Rattle.laws.specs.Whole.{sound-rises}
 use Rattle.refusals.specs.Outcomes.{query-refused, query-answered, admitted}
+use Rattle.window_queries.specs.Asks.{truth}
 use borrow.Author.Needs.{needs}
 use Rattle.window_queries.proofs.contains_pending.Statement.{statement}
 use Rattle.window_queries.proofs.contains_pending.Tie as tie
@@ -17,37 +11,18 @@ admits-requires : tie.Need-admits-requires
 admits-requires c κs = search needs
 
 returns : tie.Need-returns
-returns c =
-    let a = c .before .before .before .args in
-    let ws = a .words .now in
-    let e = c .before .admits .ensures in
-    let q : Query = asks-contains (a .h) in
-    query-refused q ws (c .before .admits .result) e (c .if1 .taken)
+returns c = query-refused _ _ _ (c .before .admits .ensures) (c .if1 .taken)
 
 contains-pending-requires : tie.Need-contains-pending-requires
 contains-pending-requires c κs =
-    let a = c .before .before .before .args in
-    let ws = a .words .now in
-    let e = c .before .admits .ensures in
-    let q : Query = asks-contains (a .h) in
-    let g = admitted (query-checks q) ws 0 (c .before .admits .result) e (c .if1 .left) in
-    (g .whole, sound-rises (window-of ws .clock) (window-of ws) (g .sound))
+    let g = admitted _ _ 0 _ (c .before .admits .ensures) (c .if1 .left) in
+    (g .whole, sound-rises _ _ (g .sound))
 
 returns-2 : tie.Need-returns-2
-returns-2 c =
-    let a = c .before .before .before .before .before .args in
-    let ws = a .words .now in
-    let e = c .before .before .before .admits .ensures in
-    let q : Query = asks-contains (a .h) in
-    query-answered q ws (c .before .before .before .admits .result) (says 0 (flag true)) e (c .before .before .if1 .left) (ap (λ (t : Bool). says 0 (flag t)) (sym (c .if2 .taken) ∙ c .before .contains-pending .ensures))
+returns-2 c = query-answered _ _ _ _ (c .before .before .before .admits .ensures) (c .before .before .if1 .left) (ap truth (sym (c .if2 .taken) ∙ c .before .contains-pending .ensures))
 
 returns-3 : tie.Need-returns-3
-returns-3 c =
-    let a = c .before .before .before .before .before .args in
-    let ws = a .words .now in
-    let e = c .before .before .before .admits .ensures in
-    let q : Query = asks-contains (a .h) in
-    query-answered q ws (c .before .before .before .admits .result) (says 0 (flag false)) e (c .before .before .if1 .left) (ap (λ (t : Bool). says 0 (flag t)) (sym (c .if2 .left) ∙ c .before .contains-pending .ensures))
+returns-3 c = query-answered _ _ _ _ (c .before .before .before .admits .ensures) (c .before .before .if1 .left) (ap truth (sym (c .if2 .left) ∙ c .before .contains-pending .ensures))
 
 pub contains-pending-spec : {M : Type 1} → statement M
 contains-pending-spec = tie.close (tie.spec admits-requires returns contains-pending-requires returns-2 returns-3)

@@ -1,14 +1,7 @@
 -- `window_queries::ewma_block_bytes` meets its contract. Assumes nothing.
-use mathlib.Core.Path.{_≡_, refl, sym, ap, _∙_}
-use mathlib.Core.Bool.{Bool, true, false}
-use mathlib.Core.List.{[], _∷_}
-use Prim.Native.Nat.{ℕ}
-use Rattle.model.specs.Layout.{window-of}
-use Rattle.model.specs.Queries.{Query, reads, ewma-block-bytes, flag, query-values}
-use Rattle.model.specs.Refusals.{query-checks}
-use Rattle.model.specs.Perform.{says}
-use Rattle.laws.specs.Whole.{sound-rises}
+use mathlib.Core.Path.{ap}
 use Rattle.refusals.specs.Outcomes.{query-refused, query-answered, admitted}
+use Rattle.window_queries.specs.Asks.{number}
 use borrow.Author.Needs.{needs}
 use Rattle.window_queries.proofs.ewma_block_bytes.Statement.{statement}
 use Rattle.window_queries.proofs.ewma_block_bytes.Tie as tie
@@ -17,29 +10,13 @@ admits-requires : tie.Need-admits-requires
 admits-requires c κs = search needs
 
 returns : tie.Need-returns
-returns c =
-    let a = c .before .before .before .args in
-    let ws = a .words .now in
-    let e = c .before .admits .ensures in
-    let q : Query = reads ewma-block-bytes in
-    query-refused q ws (c .before .admits .result) e (c .if1 .taken)
+returns c = query-refused _ _ _ (c .before .admits .ensures) (c .if1 .taken)
 
 get-mean-requires : tie.Need-get-mean-requires
-get-mean-requires c κs =
-    let a = c .before .before .before .args in
-    let ws = a .words .now in
-    let e = c .before .admits .ensures in
-    let q : Query = reads ewma-block-bytes in
-    let g = admitted (query-checks q) ws 0 (c .before .admits .result) e (c .if1 .left) in
-    g .whole .long
+get-mean-requires c κs = admitted _ _ 0 _ (c .before .admits .ensures) (c .if1 .left) .whole .long
 
 returns-2 : tie.Need-returns-2
-returns-2 c =
-    let a = c .before .before .before .before .args in
-    let ws = a .words .now in
-    let e = c .before .before .admits .ensures in
-    let q : Query = reads ewma-block-bytes in
-    query-answered q ws (c .before .before .admits .result) (says 0 (c .get-mean .result ∷ [])) e (c .before .if1 .left) (ap (λ (m : ℕ). says 0 (m ∷ [])) (c .get-mean .ensures))
+returns-2 c = query-answered _ _ _ _ (c .before .before .admits .ensures) (c .before .if1 .left) (ap number (c .get-mean .ensures))
 
 pub ewma-block-bytes-spec : {M : Type 1} → statement M
 ewma-block-bytes-spec = tie.close (tie.spec admits-requires returns get-mean-requires returns-2)

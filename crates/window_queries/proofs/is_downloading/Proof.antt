@@ -1,16 +1,7 @@
 -- `window_queries::is_downloading` meets its contract. Assumes nothing.
-use mathlib.Core.Path.{_≡_, refl, sym, ap, _∙_}
-use mathlib.Core.Bool.{Bool, true, false}
-use mathlib.Core.List.{[], _∷_}
-use Prim.Native.Nat.{ℕ}
-use Rattle.model.specs.Layout.{window-of}
-use Rattle.model.specs.Queries.{Query, reads, asks-downloading, flag, query-values}
-use Rattle.model.specs.Refusals.{query-checks}
-use Rattle.model.specs.Perform.{says}
-use native.Mathlib.Omega.{arith}
-use Rattle.laws.specs.Kept.{seat-le}
-use Rattle.laws.specs.Whole.{sound-rises}
+use mathlib.Core.Path.{sym, ap, _∙_}
 use Rattle.refusals.specs.Outcomes.{query-refused, query-answered, admitted}
+use Rattle.window_queries.specs.Asks.{a-seat, truth}
 use borrow.Author.Needs.{needs}
 use Rattle.window_queries.proofs.is_downloading.Statement.{statement}
 use Rattle.window_queries.proofs.is_downloading.Tie as tie
@@ -19,37 +10,18 @@ admits-requires : tie.Need-admits-requires
 admits-requires c κs = search needs
 
 returns : tie.Need-returns
-returns c =
-    let a = c .before .before .before .args in
-    let ws = a .words .now in
-    let e = c .before .admits .ensures in
-    let q : Query = asks-downloading (a .seat) in
-    query-refused q ws (c .before .admits .result) e (c .if1 .taken)
+returns c = query-refused _ _ _ (c .before .admits .ensures) (c .if1 .taken)
 
 is-downloading-requires : tie.Need-is-downloading-requires
 is-downloading-requires c κs =
-    let a = c .before .before .before .args in
-    let ws = a .words .now in
-    let e = c .before .admits .ensures in
-    let q : Query = asks-downloading (a .seat) in
-    let g = admitted (query-checks q) ws 0 (c .before .admits .result) e (c .if1 .left) in
-    (g .whole .long, omega (arith, seat-le (a .seat) (g .passes .peers)))
+    let g = admitted _ _ 0 _ (c .before .admits .ensures) (c .if1 .left) in
+    (g .whole .long, a-seat _ (g .passes .peers))
 
 returns-2 : tie.Need-returns-2
-returns-2 c =
-    let a = c .before .before .before .before .before .args in
-    let ws = a .words .now in
-    let e = c .before .before .before .admits .ensures in
-    let q : Query = asks-downloading (a .seat) in
-    query-answered q ws (c .before .before .before .admits .result) (says 0 (flag true)) e (c .before .before .if1 .left) (ap (λ (t : Bool). says 0 (flag t)) (sym (c .if2 .taken) ∙ c .before .is-downloading .ensures))
+returns-2 c = query-answered _ _ _ _ (c .before .before .before .admits .ensures) (c .before .before .if1 .left) (ap truth (sym (c .if2 .taken) ∙ c .before .is-downloading .ensures))
 
 returns-3 : tie.Need-returns-3
-returns-3 c =
-    let a = c .before .before .before .before .before .args in
-    let ws = a .words .now in
-    let e = c .before .before .before .admits .ensures in
-    let q : Query = asks-downloading (a .seat) in
-    query-answered q ws (c .before .before .before .admits .result) (says 0 (flag false)) e (c .before .before .if1 .left) (ap (λ (t : Bool). says 0 (flag t)) (sym (c .if2 .left) ∙ c .before .is-downloading .ensures))
+returns-3 c = query-answered _ _ _ _ (c .before .before .before .admits .ensures) (c .before .before .if1 .left) (ap truth (sym (c .if2 .left) ∙ c .before .is-downloading .ensures))
 
 pub is-downloading-spec : {M : Type 1} → statement M
 is-downloading-spec = tie.close (tie.spec admits-requires returns is-downloading-requires returns-2 returns-3)

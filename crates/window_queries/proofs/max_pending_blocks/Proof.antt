@@ -1,15 +1,8 @@
 -- `window_queries::max_pending_blocks` meets its contract. Assumes nothing.
-use mathlib.Core.Path.{_≡_, refl, sym, ap, _∙_}
-use mathlib.Core.Bool.{Bool, true, false}
-use mathlib.Core.List.{[], _∷_}
-use Prim.Native.Nat.{ℕ}
-use Rattle.model.specs.Layout.{window-of}
-use Rattle.model.specs.Queries.{Query, reads, max-pending-blocks, flag, query-values}
-use Rattle.model.specs.Refusals.{query-checks}
-use Rattle.model.specs.Perform.{says}
-use Rattle.laws.specs.Whole.{sound-rises}
-use Rattle.refusals.specs.Outcomes.{query-refused, query-answered, admitted}
+use mathlib.Core.Path.{ap}
 use Rattle.model.specs.declared.Settings.{Settings}
+use Rattle.refusals.specs.Outcomes.{query-refused, query-answered, admitted}
+use Rattle.window_queries.specs.Asks.{number}
 use borrow.Author.Needs.{needs}
 use Rattle.window_queries.proofs.max_pending_blocks.Statement.{statement}
 use Rattle.window_queries.proofs.max_pending_blocks.Tie as tie
@@ -18,29 +11,13 @@ admits-requires : tie.Need-admits-requires
 admits-requires c κs = search needs
 
 returns : tie.Need-returns
-returns c =
-    let a = c .before .before .before .args in
-    let ws = a .words .now in
-    let e = c .before .admits .ensures in
-    let q : Query = reads max-pending-blocks in
-    query-refused q ws (c .before .admits .result) e (c .if1 .taken)
+returns c = query-refused _ _ _ (c .before .admits .ensures) (c .if1 .taken)
 
 get-settings-requires : tie.Need-get-settings-requires
-get-settings-requires c κs =
-    let a = c .before .before .before .args in
-    let ws = a .words .now in
-    let e = c .before .admits .ensures in
-    let q : Query = reads max-pending-blocks in
-    let g = admitted (query-checks q) ws 0 (c .before .admits .result) e (c .if1 .left) in
-    g .whole .long
+get-settings-requires c κs = admitted _ _ 0 _ (c .before .admits .ensures) (c .if1 .left) .whole .long
 
 returns-2 : tie.Need-returns-2
-returns-2 c =
-    let a = c .before .before .before .before .args in
-    let ws = a .words .now in
-    let e = c .before .before .admits .ensures in
-    let q : Query = reads max-pending-blocks in
-    query-answered q ws (c .before .before .admits .result) (says 0 (c .get-settings .result .«max_pending_blocks» ∷ [])) e (c .before .if1 .left) (ap (λ (p : Settings). says 0 (p .«max_pending_blocks» ∷ [])) (c .get-settings .ensures))
+returns-2 c = query-answered _ _ _ _ (c .before .before .admits .ensures) (c .before .if1 .left) (ap (λ (p : Settings). number (p .«max_pending_blocks»)) (c .get-settings .ensures))
 
 pub max-pending-blocks-spec : {M : Type 1} → statement M
 max-pending-blocks-spec = tie.close (tie.spec admits-requires returns get-settings-requires returns-2)

@@ -1,18 +1,8 @@
 -- `window_queries::peer_has_expired_pending` meets its contract. Assumes nothing.
-use mathlib.Core.Path.{_≡_, refl, sym, ap, _∙_}
-use mathlib.Core.Bool.{Bool, true, false}
-use mathlib.Core.List.{[], _∷_}
-use Prim.Native.Nat.{ℕ}
-use Rattle.model.specs.Layout.{window-of}
-use Rattle.model.specs.Queries.{Query, reads, asks-has-expired, flag, query-values}
-use Rattle.model.specs.Refusals.{query-checks}
-use Rattle.model.specs.Perform.{says}
-use native.Mathlib.Omega.{arith}
+use mathlib.Core.Path.{sym, ap, _∙_}
 use Rattle.model.specs.Numbers.{read-clock}
-use Rattle.model.specs.Cooling.{key-of}
-use Rattle.laws.specs.Kept.{seat-le}
-use Rattle.laws.specs.Whole.{sound-rises}
 use Rattle.refusals.specs.Outcomes.{query-refused, query-answered, admitted}
+use Rattle.window_queries.specs.Asks.{a-seat, truth}
 use borrow.Author.Needs.{needs}
 use Rattle.window_queries.proofs.peer_has_expired_pending.Statement.{statement}
 use Rattle.window_queries.proofs.peer_has_expired_pending.Tie as tie
@@ -21,40 +11,21 @@ admits-at-requires : tie.Need-admits-at-requires
 admits-at-requires c κs = search needs
 
 returns : tie.Need-returns
-returns c =
-    let a = c .before .before .before .args in
-    let ws = a .words .now in
-    let e = c .before .admits-at .ensures in
-    let q : Query = asks-has-expired (a .seat) (a .clock) in
-    query-refused q ws (c .before .admits-at .result) e (c .if1 .taken)
+returns c = query-refused _ _ _ (c .before .admits-at .ensures) (c .if1 .taken)
 
 peer-has-expired-pending-requires : tie.Need-peer-has-expired-pending-requires
 unfolding read-clock
 peer-has-expired-pending-requires c κs =
-    let a = c .before .before .before .args in
-    let ws = a .words .now in
-    let e = c .before .admits-at .ensures in
-    let q : Query = asks-has-expired (a .seat) (a .clock) in
-    let g = admitted (query-checks q) ws 0 (c .before .admits-at .result) e (c .if1 .left) in
-    (g .whole, (g .sound-at, omega (arith, seat-le (a .seat) (g .passes .peers))))
+    let g = admitted _ _ 0 _ (c .before .admits-at .ensures) (c .if1 .left) in
+    (g .whole, (g .sound-at, a-seat _ (g .passes .peers)))
 
 returns-2 : tie.Need-returns-2
 unfolding read-clock
-returns-2 c =
-    let a = c .before .before .before .before .before .args in
-    let ws = a .words .now in
-    let e = c .before .before .before .admits-at .ensures in
-    let q : Query = asks-has-expired (a .seat) (a .clock) in
-    query-answered q ws (c .before .before .before .admits-at .result) (says 0 (flag true)) e (c .before .before .if1 .left) (ap (λ (t : Bool). says 0 (flag t)) (sym (c .if2 .taken) ∙ c .before .peer-has-expired-pending .ensures))
+returns-2 c = query-answered _ _ _ _ (c .before .before .before .admits-at .ensures) (c .before .before .if1 .left) (ap truth (sym (c .if2 .taken) ∙ c .before .peer-has-expired-pending .ensures))
 
 returns-3 : tie.Need-returns-3
 unfolding read-clock
-returns-3 c =
-    let a = c .before .before .before .before .before .args in
-    let ws = a .words .now in
-    let e = c .before .before .before .admits-at .ensures in
-    let q : Query = asks-has-expired (a .seat) (a .clock) in
-    query-answered q ws (c .before .before .before .admits-at .result) (says 0 (flag false)) e (c .before .before .if1 .left) (ap (λ (t : Bool). says 0 (flag t)) (sym (c .if2 .left) ∙ c .before .peer-has-expired-pending .ensures))
+returns-3 c = query-answered _ _ _ _ (c .before .before .before .admits-at .ensures) (c .before .before .if1 .left) (ap truth (sym (c .if2 .left) ∙ c .before .peer-has-expired-pending .ensures))
 
 pub peer-has-expired-pending-spec : {M : Type 1} → statement M
 peer-has-expired-pending-spec = tie.close (tie.spec admits-at-requires returns peer-has-expired-pending-requires returns-2 returns-3)

@@ -1,14 +1,7 @@
 -- `window_queries::stall_decay_floor` meets its contract. Assumes nothing.
-use mathlib.Core.Path.{_≡_, refl, sym, ap, _∙_}
-use mathlib.Core.Bool.{Bool, true, false}
-use mathlib.Core.List.{[], _∷_}
-use Prim.Native.Nat.{ℕ}
-use Rattle.model.specs.Layout.{window-of}
-use Rattle.model.specs.Queries.{Query, reads, decay-floor, flag, query-values}
-use Rattle.model.specs.Refusals.{query-checks}
-use Rattle.model.specs.Perform.{says}
-use Rattle.laws.specs.Whole.{sound-rises}
+use mathlib.Core.Path.{ap}
 use Rattle.refusals.specs.Outcomes.{query-refused, query-answered, admitted}
+use Rattle.window_queries.specs.Asks.{number}
 use borrow.Author.Needs.{needs}
 use Rattle.window_queries.proofs.stall_decay_floor.Statement.{statement}
 use Rattle.window_queries.proofs.stall_decay_floor.Tie as tie
@@ -17,29 +10,15 @@ admits-requires : tie.Need-admits-requires
 admits-requires c κs = search needs
 
 returns : tie.Need-returns
-returns c =
-    let a = c .before .before .before .args in
-    let ws = a .words .now in
-    let e = c .before .admits .ensures in
-    let q : Query = reads decay-floor in
-    query-refused q ws (c .before .admits .result) e (c .if1 .taken)
+returns c = query-refused _ _ _ (c .before .admits .ensures) (c .if1 .taken)
 
 stall-decay-floor-requires : tie.Need-stall-decay-floor-requires
 stall-decay-floor-requires c κs =
-    let a = c .before .before .before .args in
-    let ws = a .words .now in
-    let e = c .before .admits .ensures in
-    let q : Query = reads decay-floor in
-    let g = admitted (query-checks q) ws 0 (c .before .admits .result) e (c .if1 .left) in
+    let g = admitted _ _ 0 _ (c .before .admits .ensures) (c .if1 .left) in
     (g .whole .long, g .sound .pace .mean)
 
 returns-2 : tie.Need-returns-2
-returns-2 c =
-    let a = c .before .before .before .before .args in
-    let ws = a .words .now in
-    let e = c .before .before .admits .ensures in
-    let q : Query = reads decay-floor in
-    query-answered q ws (c .before .before .admits .result) (says 0 (c .stall-decay-floor .result ∷ [])) e (c .before .if1 .left) (ap (λ (m : ℕ). says 0 (m ∷ [])) (c .stall-decay-floor .ensures))
+returns-2 c = query-answered _ _ _ _ (c .before .before .admits .ensures) (c .before .if1 .left) (ap number (c .stall-decay-floor .ensures))
 
 pub stall-decay-floor-spec : {M : Type 1} → statement M
 stall-decay-floor-spec = tie.close (tie.spec admits-requires returns stall-decay-floor-requires returns-2)

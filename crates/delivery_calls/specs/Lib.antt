@@ -1,0 +1,2 @@
+pub mod Credits
+pub mod Receives

@@ -1,0 +1,3 @@
+pub mod Bits
+pub mod Scans
+pub mod Race

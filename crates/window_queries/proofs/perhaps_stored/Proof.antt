@@ -1,0 +1,17 @@
+-- `window_queries::perhaps_stored` meets its contract. Assumes nothing.
+use Rattle.window_queries.specs.Asks.{stored}
+use borrow.Author.Needs.{needs}
+use Rattle.window_queries.proofs.perhaps_stored.Statement.{statement}
+use Rattle.window_queries.proofs.perhaps_stored.Tie as tie
+
+returns : tie.Need-returns
+returns c = rw (c .if1 .taken)
+
+sub-t3 : tie.Need-sub-t3
+sub-t3 c = search needs
+
+returns-2 : tie.Need-returns-2
+returns-2 c = stored _ (c .if1 .left)
+
+pub perhaps-stored-spec : {M : Type 1} → statement M
+perhaps-stored-spec = tie.close (tie.spec returns sub-t3 returns-2)

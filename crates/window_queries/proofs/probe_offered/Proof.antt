@@ -1,0 +1,27 @@
+-- `window_queries::probe_offered` meets its contract. Assumes nothing.
+use mathlib.Core.Path.{sym, ap, _∙_}
+use Rattle.refusals.specs.Outcomes.{query-refused, query-answered, admitted}
+use Rattle.window_queries.specs.Asks.{a-seat, truth}
+use borrow.Author.Needs.{needs}
+use Rattle.window_queries.proofs.probe_offered.Statement.{statement}
+use Rattle.window_queries.proofs.probe_offered.Tie as tie
+
+admits-requires : tie.Need-admits-requires
+admits-requires c κs = search needs
+
+returns : tie.Need-returns
+returns c = query-refused _ _ _ (c .before .admits .ensures) (c .if1 .taken)
+
+probe-offered-requires : tie.Need-probe-offered-requires
+probe-offered-requires c κs =
+    let g = admitted _ _ 0 _ (c .before .admits .ensures) (c .if1 .left) in
+    (g .whole, a-seat _ (g .passes .peers))
+
+returns-2 : tie.Need-returns-2
+returns-2 c = query-answered _ _ _ _ (c .before .before .before .admits .ensures) (c .before .before .if1 .left) (ap truth (sym (c .if2 .taken) ∙ c .before .probe-offered .ensures))
+
+returns-3 : tie.Need-returns-3
+returns-3 c = query-answered _ _ _ _ (c .before .before .before .admits .ensures) (c .before .before .if1 .left) (ap truth (sym (c .if2 .left) ∙ c .before .probe-offered .ensures))
+
+pub probe-offered-spec : {M : Type 1} → statement M
+probe-offered-spec = tie.close (tie.spec admits-requires returns probe-offered-requires returns-2 returns-3)
