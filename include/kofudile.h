@@ -312,7 +312,7 @@ kofudile_perhaps kofudile_preferred_peer(const uint64_t *words, size_t words_len
 kofudile_plan kofudile_prefix_probe_plan(const uint64_t *words, size_t words_len);
 kofudile_hashes kofudile_prefix_probe_hashes(const uint64_t *words, size_t words_len);
 /* When the running prefix race began. refused by 1, 2 */
-kofudile_perhaps kofudile_probe_start(const uint64_t *words, size_t words_len);
+kofudile_perhaps kofudile_active_prefix_probe_started_at(const uint64_t *words, size_t words_len);
 /* Whether the seat races for this hash in the prefix race; as alternate in the race for a cold front. refused by 1, 2, 6 */
 kofudile_number kofudile_probe_offered(const uint64_t *words, size_t words_len, uint64_t seat, kofudile_hash hash);
 kofudile_number kofudile_hedge_offered(const uint64_t *words, size_t words_len, uint64_t seat, kofudile_hash hash);

@@ -249,7 +249,7 @@ unsafe extern "C" {
     pub fn kofudile_pending_owner(w: Lent, n: usize, hash: Hash) -> Perhaps;
     pub fn kofudile_owner_queue_start(w: Lent, n: usize, seat: u64) -> Perhaps;
     pub fn kofudile_front_interval_ewma_ms(w: Lent, n: usize) -> Perhaps;
-    pub fn kofudile_probe_start(w: Lent, n: usize) -> Perhaps;
+    pub fn kofudile_active_prefix_probe_started_at(w: Lent, n: usize) -> Perhaps;
     pub fn kofudile_prefix_probe_plan(w: Lent, n: usize) -> Plan;
     pub fn kofudile_prefix_probe_hashes(w: Lent, n: usize) -> Hashes;
 }

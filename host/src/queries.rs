@@ -176,7 +176,7 @@ impl DownloadWindow {
 
     /// When the running prefix race began.
     pub fn active_prefix_probe_started_at(&self) -> Result<Option<Instant>, Refusal> {
-        Ok(perhaps(self.read(ffi::kofudile_probe_start))?.map(|clock| self.moment(clock)))
+        Ok(perhaps(self.read(ffi::kofudile_active_prefix_probe_started_at))?.map(|clock| self.moment(clock)))
     }
 
     /// Whether the source races for this hash in the prefix race.
