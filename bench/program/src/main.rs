@@ -111,6 +111,7 @@ fn count(row: &str, subject: &str, pending: usize, times: usize) {
         Row::Observation,
         Row::Forecast,
         Row::OneOfEach,
+        Row::IdleSweep,
         Row::OwnedFetch,
         Row::Rejection,
         Row::Release,

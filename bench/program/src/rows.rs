@@ -41,6 +41,7 @@ pub enum Row {
     Forecast,
     Sweep,
     OneOfEach,
+    IdleSweep,
     OwnedFetch,
     Rejection,
     Release,
@@ -62,7 +63,7 @@ impl Row {
             Row::RequestOne | Row::RequestAll => &["mark_requested"],
             Row::Observation => &["observe_blocked"],
             Row::Forecast => &["expired_pending_capacity"],
-            Row::Sweep => &["expire_pending"],
+            Row::Sweep | Row::IdleSweep => &["expire_pending"],
             Row::OneOfEach => &["mark_requested", "mark_received_from", "observe_blocked", "expired_pending_capacity"],
             Row::OwnedFetch => &["mark_owned_fetch", "release_pending"],
             Row::Rejection => &["reject_delivery"],
@@ -141,6 +142,7 @@ impl<S: Subject> Bench<S> {
             Row::Observation,
             Row::Forecast,
             Row::OneOfEach,
+            Row::IdleSweep,
             Row::OwnedFetch,
             Row::Rejection,
             Row::Release,
@@ -167,9 +169,13 @@ impl<S: Subject> Bench<S> {
             Row::Sweep | Row::Retirement => self.swept_cycle(row),
             Row::LostSeat => self.lost_seat(),
             Row::OneOfEach => self.one_of_each(),
-            Row::Observation | Row::Forecast | Row::Contains | Row::CountFor | Row::Capacity | Row::Unresponsive => {
-                self.still(row)
-            }
+            Row::Observation
+            | Row::Forecast
+            | Row::IdleSweep
+            | Row::Contains
+            | Row::CountFor
+            | Row::Capacity
+            | Row::Unresponsive => self.still(row),
             _ => self.out_and_in(row),
         }
     }
@@ -183,6 +189,7 @@ impl<S: Subject> Bench<S> {
         let sample = match row {
             Row::Observation => timed(|| window.observe_blocked(LOWEST, now)),
             Row::Forecast => timed(|| window.expired_pending_capacity(now)),
+            Row::IdleSweep => timed(|| window.expire_pending(now)),
             Row::Contains => timed(|| window.contains_pending(hash)),
             Row::CountFor => timed(|| window.pending_count_for(peer)),
             Row::Capacity => timed(|| window.has_request_capacity()),

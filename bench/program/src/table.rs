@@ -31,7 +31,8 @@ const AIMED: [(Row, &str, &str); 8] = [
     (Row::OneOfEach, "one of each", "≤ 0.5 of the Rust"),
 ];
 
-const OTHERS: [(Row, &str); 10] = [
+const OTHERS: [(Row, &str); 11] = [
+    (Row::IdleSweep, "sweep that takes nothing"),
     (Row::OwnedFetch, "owned fetch, asked"),
     (Row::Rejection, "rejection by the owner"),
     (Row::Release, "release of one"),
