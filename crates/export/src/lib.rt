@@ -4,14 +4,14 @@ ghost use mathlib.Core.Path.{_≡_};
 ghost use mathlib.Core.List.{[]};
 ghost use Rattle.model.specs.Refusals.{changes, queries, clears-preferred, credits-duplicate, sets-fanout, marks-unresponsive, fetches};
 ghost use Rattle.model.specs.Queries.{reads, pending-len, pending-bytes, asks-expired-capacity, stall-timeout, max-pending-blocks, min-peers-for-fanout, fanout-active, pending-high-water, stalling-peer, peer-inflight, active-peers, decay-floor, request-cursor, ewma-block-bytes, asks-request-capacity, asks-contains, asks-count-for, asks-downloading, owner-timeout, asks-hedge-offered, asks-has-expired, asks-cooldown};
-ghost use Rattle.model.specs.Refusals.{rejects, expires, requeues, releases, retires, retains};
+ghost use Rattle.model.specs.Refusals.{receives, credits, rejects, expires, requeues, releases, retires, retains};
 ghost use Rattle.model.specs.Refusals.{opens, requests, confirms-probe, confirms-hedge, observes};
 ghost use Rattle.model.specs.Queries.{preferred-peer, probe-plan, front-interval-ewma-ms, probe-start, asks-compute-capacity, asks-probe-offered, asks-owner, asks-queue-start};
 ghost use Rattle.model.specs.Lists.{pad};
 ghost use Rattle.observation.specs.Look.{look};
 ghost use Rattle.window_queries.specs.Plan.{hash-part};
 ghost use Rattle.model.specs.Perform.{perform};
-ghost use Rattle.flat.specs.Flat.{done-flat, number-flat, pair-flat, perhaps-pair-flat, gone-flat, rejected-flat, perhaps-flat, blocked-flat, plan-flat, source-if, height-if, sought-if};
+ghost use Rattle.flat.specs.Flat.{done-flat, number-flat, pair-flat, perhaps-pair-flat, gone-flat, received-flat, rejected-flat, perhaps-flat, blocked-flat, plan-flat, source-if, height-if, sought-if};
 use flat::FlatBlocked;
 use flat::FlatGone;
 use flat::FlatHashes;
@@ -20,6 +20,7 @@ use flat::FlatPair;
 use flat::FlatPerhaps;
 use flat::FlatPerhapsPair;
 use flat::FlatPlan;
+use flat::FlatReceived;
 use flat::FlatRejected;
 use model::Hash;
 use model::Release;
@@ -431,6 +432,46 @@ pub extern "C" fn kofudile_observe_blocked(
 }
 
 // ---- lent a report: the walks are written by tools/exports
+
+#[no_mangle]
+pub extern "C" fn kofudile_mark_received_from(
+    words: &mut [u64],
+    report: &mut [Release],
+    h: Hash,
+    bytes: u64,
+    has_source: bool,
+    source: u64,
+    clock: u64,
+) -> FlatReceived
+    ensures { λ r. ⌜
+        (r ≡ received-flat (perform (changes (receives clock h bytes (source-if «has_source» source))) (now (words .entry)) (now (report .entry)) .answer))
+        × (now (words .exit) ≡ perform (changes (receives clock h bytes (source-if «has_source» source))) (now (words .entry)) (now (report .entry)) .words)
+        × (now (report .exit) ≡ perform (changes (receives clock h bytes (source-if «has_source» source))) (now (words .entry)) (now (report .entry)) .report)
+        ⌝ }
+{
+    let s = flat::source_of(has_source, source);
+    flat::of_received(window::mark_received_from(words, report, h, bytes, s, clock))
+}
+
+#[no_mangle]
+pub extern "C" fn kofudile_credit_delivery_from(
+    words: &mut [u64],
+    report: &mut [Release],
+    h: Hash,
+    source: u64,
+    has_height: bool,
+    height: u32,
+    clock: u64,
+) -> FlatGone
+    ensures { λ r. ⌜
+        (r ≡ gone-flat (perform (changes (credits clock h source (height-if «has_height» height))) (now (words .entry)) (now (report .entry)) .answer))
+        × (now (words .exit) ≡ perform (changes (credits clock h source (height-if «has_height» height))) (now (words .entry)) (now (report .entry)) .words)
+        × (now (report .exit) ≡ perform (changes (credits clock h source (height-if «has_height» height))) (now (words .entry)) (now (report .entry)) .report)
+        ⌝ }
+{
+    let pending = flat::height_of(has_height, height);
+    flat::of_let_go(window::credit_delivery_from(words, report, h, source, pending, clock))
+}
 
 #[no_mangle]
 pub extern "C" fn kofudile_reject_delivery(
