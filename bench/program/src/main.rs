@@ -1,7 +1,6 @@
 //! Ours, through the library, beside the original with std's maps and with a cheap hasher: the same calls in one run, medians.
 //! bench/run builds it and hands in where to write; `bench count ROW SUBJECT PENDING TIMES` runs one row on one of them, for callgrind.
 
-mod missing;
 mod ours;
 mod rows;
 mod subject;
@@ -37,19 +36,14 @@ fn number(text: &str) -> usize {
     text.parse().expect("a number")
 }
 
-/// Whether the library has what the row times.
-fn has(row: Row) -> bool {
-    row.calls().iter().all(|call| !ours::lacks(call))
-}
-
 fn run(rounds: usize, results: &str, picture: &str) {
     let timer = Timer::new();
     let load = load();
     let mut medians = BTreeMap::new();
     for pending in PENDING {
-        let mut ours = Bench::<Ours>::new(pending, has);
-        let mut own_maps = Bench::<OwnMaps>::new(pending, has);
-        let mut cheap = Bench::<CheapHasher>::new(pending, has);
+        let mut ours = Bench::<Ours>::new(pending);
+        let mut own_maps = Bench::<OwnMaps>::new(pending);
+        let mut cheap = Bench::<CheapHasher>::new(pending);
         let check = check_window(pending);
         let (mut proved, mut twin) = (Vec::new(), Vec::new());
         for _ in 0..rounds {
@@ -70,7 +64,7 @@ fn run(rounds: usize, results: &str, picture: &str) {
         let rust = ns(&mut twin);
         medians.insert((Row::Check, pending), Medians { ours: ns(&mut proved), own_maps: rust, cheap: rust });
     }
-    let results_text = Results { medians, rounds, load, missing: ours::MISSING };
+    let results_text = Results { medians, rounds, load };
     let text = results_text.text();
     println!("{text}");
     std::fs::write(results, text).expect("the results are written");
@@ -103,7 +97,7 @@ fn load() -> String {
 /// One row on one subject, for a profiler.
 fn count(row: &str, subject: &str, pending: usize, times: usize) {
     fn on<S: Subject>(row: Row, pending: usize, times: usize) {
-        let mut bench = Bench::<S>::new(pending, has);
+        let mut bench = Bench::<S>::new(pending);
         (0..times).for_each(|_| bench.round(5, Some(row)));
     }
     let all = [

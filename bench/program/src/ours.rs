@@ -2,8 +2,6 @@
 
 use crate::subject::{Entry, SETTINGS, Subject};
 
-pub use crate::missing::MISSING;
-
 #[repr(C)]
 #[derive(Clone, Copy)]
 pub struct Hash([u64; 4]);
@@ -69,10 +67,6 @@ unsafe extern "C" {
     fn kofudile_pending_len(w: Lent, n: usize) -> Two;
 }
 
-pub fn lacks(name: &str) -> bool {
-    MISSING.contains(&name)
-}
-
 /// On a page of its own: times depend on how the words lie.
 #[repr(align(4096))]
 struct Page([u64; 4096]);
@@ -101,10 +95,6 @@ impl Ours {
 
     pub fn words(&self) -> &[u64] {
         &self.words.0
-    }
-
-    pub fn words_mut(&mut self) -> &mut [u64; N] {
-        &mut self.words.0
     }
 
     /// The cheapest query: the check of the words, and one of them read.
@@ -144,11 +134,7 @@ impl Subject for Ours {
             *setting = value;
         }
         let keys: [u64; 256] = std::array::from_fn(|seat| seat as u64);
-        if lacks("open") {
-            interim::open(ours.words_mut(), &settings);
-        } else {
-            accepted(unsafe { kofudile_open(ours.w(), N, Settings(settings), keys.as_ptr(), 256, 0) });
-        }
+        accepted(unsafe { kofudile_open(ours.w(), N, Settings(settings), keys.as_ptr(), 256, 0) });
         ours
     }
 
@@ -174,12 +160,6 @@ impl Subject for Ours {
 
     #[inline(always)]
     fn mark_requested(&mut self, request: &Request, now: u64) -> u64 {
-        if lacks("mark_requested") {
-            if let ([a, b, c, d], [height]) = (&request.hashes[..], &request.heights[..]) {
-                return self.mark_owned_fetch(request.owner, Hash([*a, *b, *c, *d]), *height, now);
-            }
-            return interim::request(self.words_mut(), request.owner, &request.hashes, &request.heights, now);
-        }
         let Request { owner, hashes, heights } = request;
         let (w, h, g) = (self.w(), hashes.as_ptr(), heights.as_ptr());
         let said = unsafe { kofudile_mark_requested(w, N, *owner, h, hashes.len(), g, heights.len(), 0, FREE, FREE, now) };
@@ -294,37 +274,4 @@ fn words_of(hash: &[u8; 32]) -> [u64; 4] {
         *word = u64::from_be_bytes(bytes.try_into().expect("eight bytes"));
     }
     words
-}
-
-/// In place of the opening and the request until they land: writes docs/LAYOUT.md's words. Not timed.
-mod interim {
-    const HEAD: usize = 3584;
-
-    pub fn open(words: &mut [u64; 4096], settings: &[u64; 12]) {
-        words.fill(0);
-        (words[HEAD], words[HEAD + 6], words[HEAD + 7], words[HEAD + 24]) = (1, 262_144, 1, settings[9]);
-        words[HEAD + 8..HEAD + 20].copy_from_slice(settings);
-        (0..256).for_each(|seat| words[2816 + seat] = seat as u64);
-    }
-
-    pub fn request(words: &mut [u64; 4096], owner: u64, hashes: &[u64], heights: &[u32], now: u64) -> u64 {
-        let count = words[HEAD + 1] as usize;
-        let mut records: Vec<[u64; 8]> = (0..count).map(|at| std::array::from_fn(|column| words[256 * column + at])).collect();
-        for (hash, height) in hashes.chunks_exact(4).zip(heights) {
-            records.push([hash[0], hash[1], hash[2], hash[3], owner, now, u64::from(*height), words[HEAD + 6]]);
-        }
-        records.sort_unstable();
-        for (at, record) in records.iter().enumerate() {
-            (0..8).for_each(|column| words[256 * column + at] = record[column]);
-        }
-        if !heights.is_empty() && words[2304 + owner as usize] == 0 {
-            words[2304 + owner as usize] = now + 1;
-        }
-        words[HEAD + 2] = now;
-        words[HEAD + 1] = records.len() as u64;
-        words[HEAD + 3] += words[HEAD + 6] * heights.len() as u64;
-        words[HEAD + 4] = words[HEAD + 4].max(words[HEAD + 1]);
-        words[HEAD + 5] = words[HEAD + 5].max(words[HEAD + 3]);
-        (records.len() < 256).into()
-    }
 }

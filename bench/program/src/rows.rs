@@ -54,31 +54,6 @@ pub enum Row {
     Capacity,
 }
 
-impl Row {
-    /// The functions that it times.
-    pub fn calls(self) -> &'static [&'static str] {
-        match self {
-            Row::Check => &["max_pending_blocks"],
-            Row::Delivery => &["mark_received_from"],
-            Row::RequestOne | Row::RequestAll => &["mark_requested"],
-            Row::Observation => &["observe_blocked"],
-            Row::Forecast => &["expired_pending_capacity"],
-            Row::Sweep | Row::IdleSweep => &["expire_pending"],
-            Row::OneOfEach => &["mark_requested", "mark_received_from", "observe_blocked", "expired_pending_capacity"],
-            Row::OwnedFetch => &["mark_owned_fetch", "release_pending"],
-            Row::Rejection => &["reject_delivery"],
-            Row::Release => &["release_pending"],
-            Row::Retry => &["requeue_for_retry"],
-            Row::Retirement => &["retire_before"],
-            Row::LostSeat => &["retain_owned_by"],
-            Row::Unresponsive => &["mark_peer_unresponsive"],
-            Row::Contains => &["contains_pending"],
-            Row::CountFor => &["pending_count_for"],
-            Row::Capacity => &["has_request_capacity"],
-        }
-    }
-}
-
 #[derive(Default)]
 pub struct Samples {
     pub ticks: BTreeMap<Row, Vec<u64>>,
@@ -105,11 +80,10 @@ pub struct Bench<S: Subject> {
     by_owner: Vec<S::Request>,
     all: S::Request,
     pub samples: Samples,
-    has: fn(Row) -> bool,
 }
 
 impl<S: Subject> Bench<S> {
-    pub fn new(pending: usize, has: fn(Row) -> bool) -> Self {
+    pub fn new(pending: usize) -> Self {
         let mut random = Random(88_172_645_463_325_252 + pending as u64);
         let entries: Vec<Entry> = (0..pending as u32).map(|i| (random.hash(), LOWEST + i)).collect();
         let owned = |owner: usize| entries.iter().copied().skip(owner).step_by(OWNERS).collect::<Vec<Entry>>();
@@ -125,7 +99,6 @@ impl<S: Subject> Bench<S> {
             single,
             by_owner,
             samples: Samples::default(),
-            has,
         };
         let now = bench.steady.moment(SECOND);
         for request in &bench.by_owner {
@@ -155,7 +128,7 @@ impl<S: Subject> Bench<S> {
             Row::Sweep,
             Row::Retirement,
         ] {
-            if only.is_none_or(|only| only == row) && (self.has)(row) {
+            if only.is_none_or(|only| only == row) {
                 let long = matches!(row, Row::Sweep | Row::Retirement | Row::LostSeat);
                 for _ in 0..if long { times / 5 } else { times } {
                     self.cycle(row);
@@ -206,7 +179,7 @@ impl<S: Subject> Bench<S> {
         let Some((bytes, height)) = self.entries.get(at).copied() else {
             let hash = S::hash([9; 32]);
             self.samples.add(row, take(window, row, hash, LOWEST, S::peer(0), now));
-            if row == Row::Delivery && (self.has)(Row::RequestOne) {
+            if row == Row::Delivery {
                 let request = S::prepare(0, &[([9; 32], LOWEST)]);
                 self.samples.add(Row::RequestOne, timed(|| window.mark_requested(&request, now)));
             }
@@ -221,7 +194,7 @@ impl<S: Subject> Bench<S> {
         }
         self.samples.add(row, take(window, row, hash, height, peer, now));
         let back = timed(|| window.mark_requested(&self.single[at], now));
-        if row == Row::Delivery && (self.has)(Row::RequestOne) {
+        if row == Row::Delivery {
             self.samples.add(Row::RequestOne, back);
         }
     }
@@ -275,10 +248,7 @@ impl<S: Subject> Bench<S> {
         };
         assert_eq!(window.pending_len(), 0);
         self.samples.add(row, sample);
-        let filled = timed(|| window.mark_requested(&self.all, now));
-        if (self.has)(Row::RequestAll) {
-            self.samples.add(Row::RequestAll, filled);
-        }
+        self.samples.add(Row::RequestAll, timed(|| window.mark_requested(&self.all, now)));
         self.clock += 5_000 * SECOND;
         let now = self.swept.moment(self.clock);
         self.swept.expire_pending(now);

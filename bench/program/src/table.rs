@@ -16,7 +16,6 @@ pub struct Results {
     pub medians: BTreeMap<(Row, usize), Medians>,
     pub rounds: usize,
     pub load: String,
-    pub missing: &'static [&'static str],
 }
 
 /// Rows with a target in design.md, section 4, in its order.
@@ -128,16 +127,12 @@ impl Results {
         let model = cpu.lines().find_map(|line| line.strip_prefix("model name\t: ")).unwrap_or("unknown").to_string();
         let cores = cpu.lines().filter(|line| line.starts_with("processor")).count();
         let calls = self.rounds * 100;
-        let mut text = format!(
+        format!(
             "# Times beside the Rust\n\nWritten by `bench/run`; bench/README.md says how it measures. Medians of {calls} calls each ({} of sweeps, retirements and \
              lost seats), {OWNERS} owners, on {cores} cores ({model}), load {} at the start.\n",
             calls / 5,
             self.load
-        );
-        if !self.missing.is_empty() {
-            let _ = writeln!(text, "\nNot in the library yet, and so not timed: {}.", self.missing.join(", "));
-        }
-        text
+        )
     }
 
     /// A bar for each of the three, row by row, each row to its own scale.
