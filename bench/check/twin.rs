@@ -33,7 +33,8 @@ fn above(w: &[u64; 4096], i: usize) -> bool {
 fn head(w: &[u64; 4096]) -> bool {
     let h = &w[3584..];
     let (n, clock) = (h[1], h[2]);
-    if !((h[0] == 1) & (n <= 256) & (clock <= 1 << 62) & (n <= h[4]) & (h[3] <= h[5]) & (80 <= h[6]) & (h[6] <= M) & (h[7] <= M)) {
+    if !((h[0] == 1) & (n <= 256) & (clock <= 1 << 62) & (n <= h[4]) & (h[3] <= h[5]) & (80 <= h[6]) & (h[6] <= M) & (h[7] <= M))
+    {
         return false;
     }
     let latest = clock + 1;
@@ -41,7 +42,8 @@ fn head(w: &[u64; 4096]) -> bool {
         & (h[9] <= 1 << 40)
         & h[10..15].iter().fold(true, |q, &x| q & (x <= 65535))
         & h[15..20].iter().fold(true, |q, &x| q & (x <= DURATION));
-    let small = (h[21] <= 1) & (h[22] <= 4_611_686_018_428) & (h[23] <= latest) & (h[24] <= DURATION) & (h[25] <= 256) & (h[26] <= 256);
+    let small =
+        (h[21] <= 1) & (h[22] <= 4_611_686_018_428) & (h[23] <= latest) & (h[24] <= DURATION) & (h[25] <= 256) & (h[26] <= 256);
     let stall = if h[27] == 0 { any(w, 3611, 6) == 0 } else { (h[27] <= latest) & (h[28] <= 255) };
     let stuck = if h[33] == 0 { any(w, 3617, 6) == 0 } else { (h[33] <= latest) & (h[34] <= M) };
     let cold = match h[39] {

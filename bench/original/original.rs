@@ -2,6 +2,7 @@
 //! file: std's hash maps, and the same maps with a cheap hasher.
 
 #[path = "../../oracle/original/shims.rs"]
+#[cfg_attr(feature = "cheap-hasher", allow(unused_imports))]
 mod shims;
 
 #[cfg(feature = "cheap-hasher")]

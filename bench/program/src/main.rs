@@ -59,7 +59,10 @@ fn run(rounds: usize, results: &str, picture: &str) {
         for (row, samples) in &mut ours.samples.ticks {
             let theirs = own_maps.samples.ticks.get_mut(row).map(ns);
             let cheap = cheap.samples.ticks.get_mut(row).map(ns);
-            medians.insert((*row, pending), Medians { ours: ns(samples), own_maps: theirs.unwrap_or(0.0), cheap: cheap.unwrap_or(0.0) });
+            medians.insert(
+                (*row, pending),
+                Medians { ours: ns(samples), own_maps: theirs.unwrap_or(0.0), cheap: cheap.unwrap_or(0.0) },
+            );
         }
         let rust = ns(&mut twin);
         medians.insert((Row::Check, pending), Medians { ours: ns(&mut proved), own_maps: rust, cheap: rust });
@@ -116,6 +119,7 @@ fn count(row: &str, subject: &str, pending: usize, times: usize) {
         Row::Contains,
         Row::CountFor,
         Row::Capacity,
+        Row::Setting,
         Row::Sweep,
     ];
     let row = all.into_iter().find(|known| format!("{known:?}") == row).expect("a row of rows.rs");

@@ -235,8 +235,7 @@ impl Subject for Ours {
     #[inline(always)]
     fn observe_blocked(&mut self, next: u32, now: u64) -> u64 {
         let none = Hash([0; 4]);
-        let said =
-            unsafe { kofudile_observe_blocked(self.w(), N, true, next, false, none, false, 200, true, 1 << 20, now) };
+        let said = unsafe { kofudile_observe_blocked(self.w(), N, true, next, false, none, false, 200, true, 1 << 20, now) };
         accepted(said.refused);
         said.decision
     }
@@ -261,6 +260,11 @@ impl Subject for Ours {
     #[inline(always)]
     fn has_request_capacity(&self) -> u64 {
         unsafe { kofudile_has_request_capacity(self.q(), N, FREE, FREE) }.value
+    }
+
+    #[inline(always)]
+    fn max_pending_blocks(&self) -> u64 {
+        unsafe { kofudile_max_pending_blocks(self.q(), N) }.value
     }
 
     fn pending_len(&self) -> u64 {

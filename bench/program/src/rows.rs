@@ -52,6 +52,7 @@ pub enum Row {
     Contains,
     CountFor,
     Capacity,
+    Setting,
 }
 
 #[derive(Default)]
@@ -125,6 +126,7 @@ impl<S: Subject> Bench<S> {
             Row::Contains,
             Row::CountFor,
             Row::Capacity,
+            Row::Setting,
             Row::Sweep,
             Row::Retirement,
         ] {
@@ -148,6 +150,7 @@ impl<S: Subject> Bench<S> {
             | Row::Contains
             | Row::CountFor
             | Row::Capacity
+            | Row::Setting
             | Row::Unresponsive => self.still(row),
             _ => self.out_and_in(row),
         }
@@ -166,6 +169,7 @@ impl<S: Subject> Bench<S> {
             Row::Contains => timed(|| window.contains_pending(hash)),
             Row::CountFor => timed(|| window.pending_count_for(peer)),
             Row::Capacity => timed(|| window.has_request_capacity()),
+            Row::Setting => timed(|| window.max_pending_blocks()),
             _ => timed(|| window.mark_peer_unresponsive(peer, now)),
         };
         self.samples.add(row, sample);

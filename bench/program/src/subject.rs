@@ -35,6 +35,7 @@ pub trait Subject {
     fn contains_pending(&self, hash: Self::Hash) -> u64;
     fn pending_count_for(&self, source: Self::Peer) -> u64;
     fn has_request_capacity(&self) -> u64;
+    fn max_pending_blocks(&self) -> u64;
     fn pending_len(&self) -> u64;
 }
 
@@ -145,6 +146,11 @@ macro_rules! original {
             #[inline(always)]
             fn has_request_capacity(&self) -> u64 {
                 self.has_request_capacity().into()
+            }
+
+            #[inline(always)]
+            fn max_pending_blocks(&self) -> u64 {
+                self.max_pending_blocks() as u64
             }
 
             fn pending_len(&self) -> u64 {

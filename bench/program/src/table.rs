@@ -30,7 +30,7 @@ const AIMED: [(Row, &str, &str); 8] = [
     (Row::OneOfEach, "one of each", "≤ 0.5 of the Rust"),
 ];
 
-const OTHERS: [(Row, &str); 11] = [
+const OTHERS: [(Row, &str); 12] = [
     (Row::IdleSweep, "sweep that takes nothing"),
     (Row::OwnedFetch, "owned fetch, asked"),
     (Row::Rejection, "rejection by the owner"),
@@ -42,6 +42,7 @@ const OTHERS: [(Row, &str); 11] = [
     (Row::Contains, "is a hash pending"),
     (Row::CountFor, "a seat's entries counted"),
     (Row::Capacity, "room for one more"),
+    (Row::Setting, "a setting read: the check, in these windows"),
 ];
 
 /// What was reached of one target.
@@ -59,13 +60,12 @@ impl Results {
 
     fn reached(&self, row: Row) -> Option<Reached> {
         let m = self.at(row, 256)?;
-        let check = self.at(Row::Check, 256)?.ours;
+        let check = self.at(Row::Setting, 256)?.ours;
         let (own, cheap) = (m.ours / m.own_maps, m.ours / m.cheap);
-        let ratio = |most: f64| Reached {
-            text: format!("{own:.2} … {cheap:.2}"),
-            with_own_maps: own <= most,
-            with_cheap: cheap <= most,
-        };
+        let ratio =
+            |most: f64| Reached {
+                text: format!("{own:.2} … {cheap:.2}"), with_own_maps: own <= most, with_cheap: cheap <= most
+            };
         Some(match row {
             Row::Check => {
                 let holds = own <= 1.0 && m.ours <= 900.0;
@@ -89,10 +89,26 @@ impl Results {
         })
     }
 
+    /// What ours may take at most, beside the Rust with its own maps.
+    fn most(&self, row: Row) -> Option<f64> {
+        let (m, check) = (self.at(row, 256)?, self.at(Row::Setting, 256)?.ours);
+        Some(match row {
+            Row::Check => m.own_maps.min(900.0),
+            Row::Delivery => (1.8 * m.own_maps).min(check + 500.0),
+            Row::RequestOne => check + 500.0,
+            Row::RequestAll => 2.0 * m.own_maps,
+            Row::Observation | Row::Forecast => 0.35 * m.own_maps,
+            _ => 0.5 * m.own_maps,
+        })
+    }
+
     pub fn text(&self) -> String {
         let mut text = self.heading();
         let _ = writeln!(text, "\n## Against the targets: 256 pending\n");
-        let _ = writeln!(text, "| work | ours | the Rust, own maps | the Rust, cheap hasher | target | reached | met (own maps … cheap hasher) |");
+        let _ = writeln!(
+            text,
+            "| work | ours | the Rust, own maps | the Rust, cheap hasher | target | reached | met (own maps … cheap hasher) |"
+        );
         let _ = writeln!(text, "|---|---|---|---|---|---|---|");
         for (row, name, target) in AIMED {
             let Some((m, reached)) = self.at(row, 256).zip(self.reached(row)) else {
@@ -105,9 +121,11 @@ impl Results {
                 (_, own, cheap) => format!("{} … {}", said(own), said(cheap)),
             };
             let rust = if row == Row::Check { [us(m.own_maps), "–".into()] } else { [us(m.own_maps), us(m.cheap)] };
-            let _ = writeln!(text, "| {name} | {} | {} | {} | {target} | {} | {met} |", us(m.ours), rust[0], rust[1], reached.text);
+            let _ =
+                writeln!(text, "| {name} | {} | {} | {} | {target} | {} | {met} |", us(m.ours), rust[0], rust[1], reached.text);
         }
-        let _ = writeln!(text, "\n## At 0, 8, 128 and 256 pending\n\nOurs / the Rust with its own maps / with a cheap hasher, µs.\n");
+        let _ =
+            writeln!(text, "\n## At 0, 8, 128 and 256 pending\n\nOurs / the Rust with its own maps / with a cheap hasher, µs.\n");
         let _ = writeln!(text, "| work | 0 | 8 | 128 | 256 |\n|---|---|---|---|---|");
         let names = AIMED.iter().map(|(row, name, _)| (*row, name.replace("256 entries", "all entries")));
         for (row, name) in names.chain(OTHERS.iter().map(|(row, name)| (*row, name.to_string()))) {
@@ -144,16 +162,25 @@ impl Results {
         let mut svg = format!(
             "<svg xmlns=\"http://www.w3.org/2000/svg\" width=\"{width}\" height=\"{height}\" viewBox=\"0 0 {width} {height}\" \
              font-family=\"sans-serif\" font-size=\"12\">\n<rect width=\"100%\" height=\"100%\" fill=\"#ffffff\"/>\n\
-             <text x=\"16\" y=\"24\" font-size=\"15\" font-weight=\"bold\">Medians at 256 pending, µs; each row to its own scale</text>\n"
+             <text x=\"16\" y=\"24\" font-size=\"15\" font-weight=\"bold\">Medians at 256 pending, µs; each row to its own scale; red: the target</text>\n"
         );
-        let legend = [("#1b7f5c", "ours, with refusals and the whole check"), ("#8a8f98", "the Rust, own maps"), ("#c3c7cd", "the Rust, cheap hasher")];
+        let legend = [
+            ("#1b7f5c", "ours, with refusals and the whole check"),
+            ("#8a8f98", "the Rust, own maps"),
+            ("#c3c7cd", "the Rust, cheap hasher"),
+        ];
         for (i, (colour, name)) in legend.iter().enumerate() {
             let x = 16.0 + 270.0 * i as f64;
-            let _ = writeln!(svg, "<rect x=\"{x}\" y=\"36\" width=\"12\" height=\"12\" fill=\"{colour}\"/><text x=\"{}\" y=\"46\">{name}</text>", x + 18.0);
+            let _ = writeln!(
+                svg,
+                "<rect x=\"{x}\" y=\"36\" width=\"12\" height=\"12\" fill=\"{colour}\"/><text x=\"{}\" y=\"46\">{name}</text>",
+                x + 18.0
+            );
         }
         for (i, (name, m, reached, row)) in rows.iter().enumerate() {
             let top = 62.0 + step * i as f64;
-            let most = m.ours.max(m.own_maps).max(m.cheap);
+            let target = self.most(*row).unwrap_or(0.0);
+            let most = m.ours.max(m.own_maps).max(m.cheap).max(target);
             let _ = writeln!(svg, "<text x=\"{}\" y=\"{}\" text-anchor=\"end\">{name}</text>", left - 10.0, top + 28.0);
             let bars = [(m.ours, legend[0].0, 0.0), (m.own_maps, legend[1].0, 17.0), (m.cheap, legend[2].0, 34.0)];
             for (value, colour, down) in bars.iter().take(if *row == Row::Check { 2 } else { 3 }) {
@@ -167,8 +194,16 @@ impl Results {
                     short(*value)
                 );
             }
+            let at = left + room * target / most;
+            let _ = writeln!(svg, "<rect x=\"{at:.1}\" y=\"{}\" width=\"2\" height=\"18\" fill=\"#c0392b\"/>", top - 2.0);
             if let Some(reached) = reached {
-                let _ = writeln!(svg, "<text x=\"{}\" y=\"{}\" text-anchor=\"end\" fill=\"#555\">{}</text>", left - 10.0, top + 44.0, reached.text);
+                let _ = writeln!(
+                    svg,
+                    "<text x=\"{}\" y=\"{}\" text-anchor=\"end\" fill=\"#555\">{}</text>",
+                    left - 10.0,
+                    top + 44.0,
+                    reached.text
+                );
             }
         }
         svg + "</svg>\n"
