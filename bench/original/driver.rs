@@ -145,6 +145,11 @@ impl Original {
         self.window.has_request_capacity(&self.stager)
     }
 
+    #[inline(never)]
+    pub fn max_pending_blocks(&self) -> usize {
+        self.window.max_pending_blocks()
+    }
+
     pub fn pending_len(&self) -> usize {
         self.window.pending_len()
     }
