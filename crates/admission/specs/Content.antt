@@ -1,6 +1,6 @@
 -- What is refused before a call's clock, or before its content, and what is known where nothing was. Generic over what is checked then.
 -- Assumes nothing.
-use mathlib.Core.Path.{_≡_, sym}
+use mathlib.Core.Path.{_≡_, refl, sym, _∙_}
 use mathlib.Core.Bool.{Bool, true, false}
 use mathlib.Core.List.{List}
 use Prim.Native.Nat.{ℕ, suc, _≤_, _<_}
@@ -23,16 +23,19 @@ passing : (k n x y : ℕ) (b : Bool) → (0 ≡ x → n ≡ y) → 0 ≡ test (s
 passing k n x y true f e = f e
 passing k n x y false f e = absurd (omega arith)
 
-module _ (l : Bool) (m : Moment) (p : Bool) (f : Window → ℕ) (ws : List ℕ) (room : ℕ) where
-  pub before-content : (n : ℕ) → n ≡ window-refusal (checking l m p nothing) ws room → (n ≡ 0 → ⊥) → n ≡ window-refusal (checking l m p f) ws room
+module _ (l : Bool) (m : Moment) (p : Bool) (f : Window → ℕ) (ws : List ℕ) (room n : ℕ) (e : n ≡ window-refusal (checking l m p nothing) ws room) where
+  -- a number before 7 is the call's
+  pub refused-before : (n ≡ 0 → ⊥) → n ≡ window-refusal (checking l m p f) ws room
   unfolding window-refusal refusal-at
-  before-content n e h =
+  refused-before h =
       either 1 n _ _ (is-long ws) (either 2 n _ _ (is-window ws) (either 3 n _ _ (report-ok l room) (either 4 n _ _ (moment-ok m (window-of ws .clock)) (either 6 n _ _ p (λ z. absurd (h z)))))) e
 
-  pub then-content : (k : ℕ) → 0 ≡ window-refusal (checking l m p nothing) ws room → k ≡ f (window-of ws) → k ≡ window-refusal (checking l m p f) ws room
+  -- without one the content decides
+  pub refused-after : n ≡ 0 → f (window-of ws) ≡ window-refusal (checking l m p f) ws room
   unfolding window-refusal refusal-at
-  then-content k e c =
-      passing 0 k _ _ (is-long ws) (passing 1 k _ _ (is-window ws) (passing 2 k _ _ (report-ok l room) (passing 3 k _ _ (moment-ok m (window-of ws .clock)) (passing 5 k _ _ p (λ _. c))))) e
+  refused-after z =
+      let k = f (window-of ws) in
+      passing 0 k _ _ (is-long ws) (passing 1 k _ _ (is-window ws) (passing 2 k _ _ (report-ok l room) (passing 3 k _ _ (moment-ok m (window-of ws .clock)) (passing 5 k _ _ p (λ _. refl))))) (sym z ∙ e)
 
 -- ---- 1, 2 and 3, before the clock is looked at
 

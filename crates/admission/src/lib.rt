@@ -32,7 +32,7 @@ pub fn admits_at(words: &[u64], clock: u64, peers: bool) -> u64
     if !check_window::is_window(words) {
         return 2;
     }
-    if clock > 4611686018427387904 {
+    if clock > 4_611_686_018_427_387_904 {
         return 4;
     }
     let last = state::get_clock(words);

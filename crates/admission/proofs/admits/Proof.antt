@@ -4,7 +4,6 @@ use mathlib.Core.Path.{_≡_, refl, sym, subst, _∙_}
 use mathlib.Core.Bool.{Bool, true, false}
 use Prim.Native.Nat.{ℕ, _≤_, _<_}
 use Rattle.model.specs.Layout.{window-of, is-window}
-use Rattle.model.specs.Refusals.{Checks, timeless, at, checking, nothing}
 use Rattle.refusals.specs.Tests.{refused-1, refused-2, refused-4, refused-6, by-content, clock-high, clock-back, clock-good, report-none}
 use Rattle.admission.specs.Admits.{no-window, a-window}
 use borrow.Author.Needs.{needs}
@@ -12,9 +11,7 @@ use Rattle.admission.proofs.admits.Statement.{statement}
 use Rattle.admission.proofs.admits.Tie as tie
 
 returns : tie.Need-returns
-returns c =
-    let a = c .before .before .args in
-    refused-1 (checking false timeless (a .peers) nothing) (a .words .now) 0 (c .if1 .taken)
+returns c = refused-1 _ _ 0 (c .if1 .taken)
 
 is-window-requires : tie.Need-is-window-requires
 is-window-requires c κs = search needs
@@ -23,30 +20,27 @@ returns-2 : tie.Need-returns-2
 returns-2 c =
     let a = c .before .before .before .before .args in
     let ws = a .words .now in
-    let k : Checks = checking false timeless (a .peers) nothing in
     let n = c .before .before .if1 .left in
     let w = c .before .is-window in
-    refused-2 k ws 0 n (no-window ws n (w .result) (w .ensures) (c .if2 .taken))
+    refused-2 _ _ 0 n (no-window ws n (w .result) (w .ensures) (c .if2 .taken))
 
 returns-3 : tie.Need-returns-3
 returns-3 c =
     let a = c .before .before .before .before .before .args in
     let ws = a .words .now in
-    let k : Checks = checking false timeless (a .peers) nothing in
     let n = c .before .before .before .if1 .left in
     let w = c .before .before .is-window in
     let v = a-window ws n (w .result) (w .ensures) (c .before .if2 .left) in
-    refused-6 k ws 0 n v (report-none 0) refl (not-true (a .peers) (c .if3 .taken))
+    refused-6 _ _ 0 n v (report-none 0) refl (not-true (a .peers) (c .if3 .taken))
 
 returns-4 : tie.Need-returns-4
 returns-4 c =
     let a = c .before .before .before .before .before .args in
     let ws = a .words .now in
-    let k : Checks = checking false timeless (a .peers) nothing in
     let n = c .before .before .before .if1 .left in
     let w = c .before .before .is-window in
     let v = a-window ws n (w .result) (w .ensures) (c .before .if2 .left) in
-    by-content k ws 0 n v (report-none 0) refl (not-false (a .peers) (c .if3 .left))
+    by-content _ _ 0 n v (report-none 0) refl (not-false (a .peers) (c .if3 .left))
 
 pub admits-spec : {M : Type 1} → statement M
 admits-spec = tie.close (tie.spec returns is-window-requires returns-2 returns-3 returns-4)

@@ -1,10 +1,11 @@
 -- `admission::admits_body` meets its contract. Assumes nothing.
-use mathlib.Core.Path.{sym, _∙_}
+use mathlib.Core.Path.{_∙_}
 use mathlib.Core.Bool.{true}
+use native.Mathlib.Omega.{arith}
 use borrow.Author.Needs.{needs}
 use Rattle.model.specs.Layout.{window-of}
 use Rattle.model.specs.Refusals.{at, body-refusal}
-use Rattle.admission.specs.Content.{before-content, then-content, body-over, body-fits}
+use Rattle.admission.specs.Content.{refused-before, refused-after, body-over, body-fits}
 use Rattle.admission.proofs.admits_body.Statement.{statement}
 use Rattle.admission.proofs.admits_body.Tie as tie
 
@@ -15,19 +16,21 @@ returns : tie.Need-returns
 returns c =
     let a = c .before .before .before .args in
     let n = c .before .admits-report in
-    before-content true (at (a .clock)) (a .peers) (body-refusal (a .bytes)) (a .words .now) (a .room) (n .result) (n .ensures) (c .if1 .taken)
+    refused-before true (at (a .clock)) (a .peers) (body-refusal (a .bytes)) (a .words .now) (a .room) (n .result) (n .ensures) (c .if1 .taken)
 
 returns-2 : tie.Need-returns-2
 returns-2 c =
     let a = c .before .before .before .before .args in
     let n = c .before .before .admits-report in
-    then-content true (at (a .clock)) (a .peers) (body-refusal (a .bytes)) (a .words .now) (a .room) 9 (sym (c .before .if1 .left) ∙ n .ensures) (body-over (a .bytes) (window-of (a .words .now)) (c .if2 .taken))
+    body-over (a .bytes) (window-of (a .words .now)) (omega (arith, c .if2 .taken))
+    ∙ refused-after true (at (a .clock)) (a .peers) (body-refusal (a .bytes)) (a .words .now) (a .room) (n .result) (n .ensures) (c .before .if1 .left)
 
 returns-3 : tie.Need-returns-3
 returns-3 c =
     let a = c .before .before .before .before .args in
     let n = c .before .before .admits-report in
-    then-content true (at (a .clock)) (a .peers) (body-refusal (a .bytes)) (a .words .now) (a .room) 0 (sym (c .before .if1 .left) ∙ n .ensures) (body-fits (a .bytes) (window-of (a .words .now)) (c .if2 .left))
+    body-fits (a .bytes) (window-of (a .words .now)) (omega (arith, c .if2 .left))
+    ∙ refused-after true (at (a .clock)) (a .peers) (body-refusal (a .bytes)) (a .words .now) (a .room) (n .result) (n .ensures) (c .before .if1 .left)
 
 pub admits-body-spec : {M : Type 1} → statement M
 admits-body-spec = tie.close (tie.spec admits-report-requires returns returns-2 returns-3)
