@@ -161,16 +161,19 @@ fn figures<W: Loaded>() -> Vec<Figure> {
     ]
 }
 
+/// Each figure, and whether it holds.
+pub fn held<W: Loaded>() -> Vec<(&'static str, bool)> {
+    figures::<W>().into_iter().map(|(figure, holds)| (figure, holds())).collect()
+}
+
 /// Prints one line a figure; returns how many held and how many did not.
 pub fn run<W: Loaded>() -> (usize, usize) {
-    let mut held = 0;
-    let figures = figures::<W>();
-    for (figure, holds) in &figures {
-        let well = holds();
-        held += usize::from(well);
-        println!("{} {figure}", if well { "holds " } else { "FAILS " });
+    let all = held::<W>();
+    for (figure, holds) in &all {
+        println!("{} {figure}", if *holds { "holds " } else { "FAILS " });
     }
-    (held, figures.len() - held)
+    let held = all.iter().filter(|(_, holds)| *holds).count();
+    (held, all.len() - held)
 }
 
 fn owner_timeouts<W: Loaded>() -> bool {

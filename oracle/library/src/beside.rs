@@ -1,6 +1,5 @@
 //! The same seeded calls through the original and through the library: answers, releases in report order and whole states are equal.
 
-use crate::missing;
 use crate::window::Library;
 use calls::events;
 use calls::generator::{Generator, Profile};
@@ -20,8 +19,6 @@ pub struct Result {
     /// Entries in reports.
     pub released: u64,
     pub failures: Vec<String>,
-    /// Calls that the library has not yet, of which the original's outcome was taken over.
-    pub adopted: BTreeMap<String, u64>,
     pub tally: Tally,
 }
 
@@ -44,12 +41,6 @@ impl Result {
             let call = generator.next(last.as_ref());
             let theirs = original.call(&call);
             let kind = raw::kind(&raw::Call::from(&call));
-            if missing::lacks(&kind) {
-                library.adopt(&theirs.state);
-                *self.adopted.entry(kind).or_default() += 1;
-                last = Some(theirs);
-                continue;
-            }
             match library.try_call(&call) {
                 Ok(mine) if mine == theirs => {
                     events::count(&mut self.tally, last.as_ref(), &call, &mine);

@@ -2,7 +2,6 @@
 //! window is the independent reader's to say; those that still count are loaded into the original, and calls go through both.
 
 use crate::beside::difference;
-use crate::missing;
 use crate::refused::answers;
 use crate::window::Library;
 use calls::figures::Loaded;
@@ -85,9 +84,6 @@ impl Damaged {
         }
         for _ in 0..CALLS {
             let call = generator.next(Some(&last));
-            if lacks(&call) {
-                return;
-            }
             let theirs = original.call(&call);
             self.compared += 1;
             match library.try_call(&call) {
@@ -112,9 +108,6 @@ impl Damaged {
     }
 
     fn hold(&mut self, call: &Call, words: &[u64], places: usize) {
-        if lacks(call) {
-            return;
-        }
         let raw = raw::Call::from(call);
         let number = raw::refusal(&raw, words, places);
         self.refused += u64::from(number > 0);
@@ -122,10 +115,6 @@ impl Damaged {
             self.failures.push(format!("{call:?}, {places} places: {problem}\nwords {words:?}"));
         }
     }
-}
-
-fn lacks(call: &Call) -> bool {
-    missing::lacks(&raw::kind(&raw::Call::from(call)))
 }
 
 fn next_call(generator: &mut Generator, state: &State) -> Call {

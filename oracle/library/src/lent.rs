@@ -1,7 +1,6 @@
 //! Lent memory, and the library's functions called on it. Beside the words and the report lie guards that no call may touch.
 
 use crate::ffi::*;
-use crate::missing;
 use calls::{Answer, BlameReason, Decision, OwnedFetch, Rejection};
 use layout::hash_words;
 use raw::Call;
@@ -79,7 +78,6 @@ impl Lent {
     }
 
     pub fn perform(&mut self, call: &Call) -> Said {
-        missing::stop_if(&raw::kind(call));
         match call {
             Call::Open { clock, settings, keys } => self.open(*clock, settings, keys),
             Call::MarkRequested { clock, owner, hashes, heights, next_request_height, byte_headroom, count_headroom } => {

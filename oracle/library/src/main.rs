@@ -2,99 +2,187 @@
 
 mod beside;
 mod damaged;
+mod differences;
 #[allow(clippy::too_many_arguments)]
 mod ffi;
 mod lent;
-mod missing;
+mod record;
 mod refused;
 mod window;
 
 use beside::Result;
-use calls::figures;
-use calls::tally;
+use calls::{figures, tally};
 use damaged::Damaged;
+use ordered::Original;
 use refused::Refused;
-use std::env;
 use std::process::ExitCode;
+use std::time::Instant;
+use std::{env, fs};
 use window::Library;
 
-/// What a command found: lines for docs/COMPARED.md, what passed, what failed.
+/// What a run found.
 struct Found {
+    title: &'static str,
+    /// As they stand in docs/COMPARED.md.
     lines: Vec<String>,
     passed: u64,
     failures: Vec<String>,
+    seconds: u64,
 }
+
+const USAGE: &str = "wanted: calls CALLS SEED SEEDS, refusals SEED, damage CASES SEED, figures, differences, vectors FOLDER, short CALLS SEED CASES, or \
+                     all CALLS SEED SEEDS CASES DOCUMENT EVENTS";
 
 fn main() -> ExitCode {
     let arguments: Vec<String> = env::args().skip(1).collect();
-    let numbers: Vec<u64> = arguments.iter().skip(1).map(|text| number(text)).collect();
-    let found = match (arguments.first().map(String::as_str), &numbers[..]) {
-        (Some("calls"), [calls, seed, seeds]) => beside(*calls, *seed, *seeds),
-        (Some("refusals"), [seed]) => refusals(*seed),
-        (Some("damage"), [cases, seed]) => damage(*cases, *seed),
-        (Some("figures"), []) => held_figures(),
+    let words: Vec<&str> = arguments.iter().map(String::as_str).collect();
+    let found = match words[..] {
+        ["calls", calls, seed, seeds] => vec![beside(number(calls), number(seed), number(seeds)).0],
+        ["refusals", seed] => vec![refusals(number(seed))],
+        ["damage", cases, seed] => vec![damage(number(cases), number(seed))],
+        ["figures"] => vec![held_figures()],
+        ["differences"] => vec![meant_to_differ()],
+        ["vectors", folder] => return record::vectors(folder),
+        ["short", calls, seed, cases] => {
+            let seed = number(seed);
+            vec![beside(number(calls), seed, 1).0, refusals(seed), damage(number(cases), seed), held_figures(), meant_to_differ()]
+        }
+        ["all", calls, seed, seeds, cases, document, events] => {
+            let (compared, table) = beside(number(calls), number(seed), number(seeds));
+            let all =
+                vec![compared, refusals(number(seed)), damage(number(cases), number(seed)), held_figures(), meant_to_differ()];
+            fs::write(events, table).unwrap_or_else(|error| panic!("{events}: {error}"));
+            fs::write(document, text(&all, &arguments)).unwrap_or_else(|error| panic!("{document}: {error}"));
+            all
+        }
         _ => {
-            eprintln!("wanted: calls CALLS SEED SEEDS, refusals SEED, damage CASES SEED, or figures");
+            eprintln!("{USAGE}");
             return ExitCode::from(2);
         }
     };
-    found.lines.iter().for_each(|line| println!("{line}"));
-    found.failures.iter().take(20).for_each(|failure| println!("DIFFERS {failure}"));
-    println!("{} passed, {} failed", found.passed, found.failures.len());
-    if found.failures.is_empty() { ExitCode::SUCCESS } else { ExitCode::FAILURE }
+    for part in &found {
+        println!("-- {} ({} s)", part.title, part.seconds);
+        part.lines.iter().for_each(|line| println!("{line}"));
+        part.failures.iter().take(20).for_each(|failure| println!("DIFFERS {failure}"));
+    }
+    let failed: usize = found.iter().map(|part| part.failures.len()).sum();
+    println!("{} passed, {failed} failed", found.iter().map(|part| part.passed).sum::<u64>());
+    if failed == 0 { ExitCode::SUCCESS } else { ExitCode::FAILURE }
 }
 
 fn number(text: &str) -> u64 {
     text.replace(['_', ','], "").parse().unwrap_or_else(|_| panic!("{text} is not a number"))
 }
 
-fn beside(calls: u64, seed: u64, seeds: u64) -> Found {
-    let mut result = Result::default();
+/// docs/COMPARED.md.
+fn text(all: &[Found], arguments: &[String]) -> String {
+    let mut text = format!(
+        "# The library beside the Rust\n\nWritten by `oracle/compare {}`; what is compared, and how, is in [oracle/README.md](../oracle/README.md).\n",
+        arguments[..5].join(" ")
+    );
+    for part in all {
+        let verdict = if part.failures.is_empty() { "all equal" } else { "NOT EQUAL" };
+        text += &format!(
+            "\n## {}: {} passed, {} failed, {verdict} ({} s)\n\n",
+            part.title,
+            part.passed,
+            part.failures.len(),
+            part.seconds
+        );
+        text += &part.lines.join("\n");
+        text += "\n";
+        part.failures.iter().take(20).for_each(|failure| text += &format!("\nDIFFERS {failure}\n"));
+    }
+    text
+}
+
+/// With the tally, an event a line.
+fn beside(calls: u64, seed: u64, seeds: u64) -> (Found, String) {
+    let (mut result, start) = (Result::default(), Instant::now());
     result.run(calls, seed, seeds);
     let table = result.tally.table();
     let reached = table.iter().filter(|(_, count)| *count > 0).count();
     let mut lines = vec![
         format!(
-            "{} calls in {} sequences of {} seeds from {seed} on: {} calls equal in answer, report and whole state, {} entries in reports",
-            calls, result.sequences, result.seeds, result.calls, result.released
+            "{calls} calls in {} sequences of {} seeds from {seed} on, half of them beside the build with ordered maps and half beside the build with its own \
+             maps on distinct heights: {} calls equal in answer, in releases by report order and in whole state, with {} releases.",
+            result.sequences, result.seeds, result.calls, result.released
         ),
         format!(
-            "{reached} of {} events reached through the library; {} are unreachable by EVENTS.md",
+            "{reached} of {} events reached through the library; {} cannot be reached, as [EVENTS.md](../oracle/EVENTS.md) shows.",
             table.len(),
             tally::unreachable().len()
         ),
+        String::new(),
+        "| call or query | times |\n|---|---|".to_string(),
     ];
-    if !result.adopted.is_empty() {
-        lines.push(format!("not in the library, taken over from the Rust: {:?}", result.adopted));
-    }
-    lines.extend(result.by_kind.iter().map(|(kind, count)| format!("{count:>10}  {kind}")));
+    lines.extend(result.by_kind.iter().map(|(kind, count)| format!("| {kind} | {count} |")));
     let mut failures = result.failures;
     failures.extend(result.tally.problems());
-    Found { lines, passed: result.calls + reached as u64, failures }
+    let events = table.iter().map(|(name, count)| format!("{count:>10}  {name}\n")).collect();
+    let passed = result.calls + reached as u64;
+    (Found { title: "Seeded calls", lines, passed, failures, seconds: start.elapsed().as_secs() }, events)
 }
 
 fn refusals(seed: u64) -> Found {
-    let mut refused = Refused::default();
+    let (mut refused, start) = (Refused::default(), Instant::now());
     refused.run(seed);
-    let mut lines = vec![format!("{} calls tried (seed {seed})", refused.tries)];
+    let mut lines = vec![
+        format!(
+            "{} calls tried on windows of seed {seed} and on other words: answered by 01's list written down independently (`oracle/raw`), and refused ones \
+             left words and report as they were. By number (0: accepted), and how many sets of two causes or more.",
+            refused.tries
+        ),
+        String::new(),
+        "| call or query | 0 | 1 | 2 | 3 | 4 | 5 | 6 | 7 | 8 | 9 | sets |\n|---|---|---|---|---|---|---|---|---|---|---|---|"
+            .to_string(),
+    ];
     lines.extend(refused.table());
-    Found { lines, passed: refused.tries - (refused.failures.len() as u64).min(refused.tries), failures: refused.failures }
+    let passed = refused.tries.saturating_sub(refused.failures.len() as u64);
+    Found { title: "Refusals", lines, passed, failures: refused.failures, seconds: start.elapsed().as_secs() }
 }
 
 fn damage(cases: u64, seed: u64) -> Found {
-    let mut damaged = Damaged::default();
+    let (mut damaged, start) = (Damaged::default(), Instant::now());
     damaged.run(cases, seed);
     let Damaged { random, changed, made, counted, compared, refused, failures } = damaged;
     let line = format!(
-        "{random} memories of random words or a wrong length, {changed} windows with one to four words changed, {made} windows made word by word, half of \
-         them changed too (seed {seed}): {refused} calls refused as the reader says, with nothing written; {counted} still windows, and {compared} calls on \
-         them equal to the Rust's"
+        "{random} memories of random words or of a wrong length, {changed} windows of calls with one to four words changed, {made} windows made word by word, \
+         half of these changed too (seed {seed}). {refused} calls refused as the independent reader says, reports too short among them, with nothing written. \
+         {counted} memories still counted as a window and were loaded into the Rust: {compared} calls on them equal in answer, releases and whole state."
     );
-    Found { lines: vec![line], passed: (random + changed + made).saturating_sub(failures.len() as u64), failures }
+    let passed = (random + changed + made).saturating_sub(failures.len() as u64);
+    Found { title: "Damaged memory", lines: vec![line], passed, failures, seconds: start.elapsed().as_secs() }
 }
 
 fn held_figures() -> Found {
-    let (held, failed) = figures::run::<Library>();
-    let failures = (0..failed).map(|_| "a figure".to_string()).collect();
-    Found { lines: Vec::new(), passed: held as u64, failures }
+    let start = Instant::now();
+    let (original, library) = (figures::held::<Original>(), figures::held::<Library>());
+    let mut lines = vec!["| figure or sentence of 01 | the Rust | the library |\n|---|---|---|".to_string()];
+    let mut failures = Vec::new();
+    let mut passed = 0;
+    for ((figure, theirs), (_, mine)) in original.into_iter().zip(library) {
+        lines.push(format!("| {} | {} | {} |", figure.replace('*', "\\*"), held(theirs), held(mine)));
+        passed += u64::from(theirs && mine);
+        failures.extend((!(theirs && mine)).then(|| figure.to_string()));
+    }
+    let (full, pending) = refused::one_more_than_256();
+    lines.push(format!("| 256 pending: a request with one more hash is 8 | {pending} pending | {} |", held(full)));
+    passed += u64::from(full);
+    failures.extend((!full).then(|| "256 pending and one more".to_string()));
+    Found { title: "01's figures through both", lines, passed, failures, seconds: start.elapsed().as_secs() }
+}
+
+fn meant_to_differ() -> Found {
+    let start = Instant::now();
+    let shown = differences::shown();
+    let mut lines = vec!["| difference | the Rust | the library |\n|---|---|---|".to_string()];
+    lines.extend(shown.iter().map(|case| format!("| {} | {} | {} |", case.what, case.original, case.library)));
+    let failures: Vec<String> = shown.iter().filter(|case| !case.holds).map(|case| case.what.to_string()).collect();
+    let passed = (shown.len() - failures.len()) as u64;
+    Found { title: "Where they are meant to differ", lines, passed, failures, seconds: start.elapsed().as_secs() }
+}
+
+fn held(holds: bool) -> &'static str {
+    if holds { "holds" } else { "FAILS" }
 }

@@ -2,10 +2,11 @@
 //! once, both sides of every limit; words and report are as they were, to the byte.
 
 use crate::lent::{Lent, Said};
-use crate::missing;
+use calls::Window as _;
 use layout::{HEAD, encode, is_window};
+use ordered::Original;
 use raw::{Call, causes, kind};
-use refusals::samples::{Try, samples, variations};
+use refusals::samples::{Try, list, request, samples, variations};
 use refusals::windows::{self, Window};
 use std::collections::{BTreeMap, BTreeSet};
 
@@ -34,7 +35,7 @@ impl Refused {
     /// Every way to spoil every call, and every two of them.
     fn on_window(&mut self, window: &Window) {
         let words = encode(&window.state);
-        for call in samples(&window.state).iter().filter(|call| !missing::lacks(&kind(call))) {
+        for call in &samples(&window.state) {
             for first in variations(call, &window.state) {
                 self.one(&first.call, &words, first.places);
             }
@@ -52,7 +53,7 @@ impl Refused {
             lent.push(whole.clone());
             lent.last_mut().expect("one was pushed")[word] = value;
         }
-        for call in samples(&window.state).iter().filter(|call| !missing::lacks(&kind(call))) {
+        for call in &samples(&window.state) {
             let tries: Vec<Try> =
                 variations(call, &window.state).into_iter().chain(combined(call, window).into_values()).collect();
             for words in &lent {
@@ -162,4 +163,20 @@ fn numbers(kind: &str) -> Vec<u8> {
         kind if timeless.contains(&kind) || seats.contains(&kind) => vec![0, 1, 2, 6],
         _ => vec![0, 1, 2],
     }
+}
+
+/// 01's figure: 256 pending, a request with one more hash is 8; and how many the Rust then has pending.
+pub fn one_more_than_256() -> (bool, usize) {
+    let window = &windows::chosen()[3];
+    let call = request(window.state.last_clock, list(0..1), 1);
+    let mut original = Original::loaded(&window.state);
+    let asked = calls::Call::MarkRequested {
+        clock: window.state.last_clock,
+        owner: 9,
+        entries: vec![(windows::hash(1_000_000), 500)],
+        next_request_height: 0,
+        byte_headroom: 1 << 30,
+        count_headroom: 9,
+    };
+    (answers(&call, &encode(&window.state), 256, 8).is_ok(), original.call(&asked).state.pending.len())
 }

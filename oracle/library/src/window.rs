@@ -27,11 +27,6 @@ impl Library {
         self.lent.words()
     }
 
-    /// As after calls that led to this state.
-    pub fn adopt(&mut self, state: &State) {
-        self.lent.words_mut().copy_from_slice(&encode(state));
-    }
-
     /// A call that is to be accepted, or what was wrong.
     pub fn try_call(&mut self, call: &Call) -> Result<Outcome, String> {
         self.turn += 1;
@@ -67,7 +62,7 @@ impl Window for Library {
 impl Loaded for Library {
     fn loaded(state: &State) -> Self {
         let mut library = Self::default();
-        library.adopt(state);
+        library.lent.words_mut().copy_from_slice(&encode(state));
         library
     }
 }

@@ -1,0 +1,7 @@
+//! Recorded calls for crates/vectors.
+
+use std::process::ExitCode;
+
+pub fn vectors(_folder: &str) -> ExitCode {
+    ExitCode::FAILURE
+}
