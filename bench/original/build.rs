@@ -1,0 +1,36 @@
+//! Writes the original, with the oracle's substitutions, into the build's folder; with the feature cheap-hasher its maps are those of cheap.rs.
+
+use std::env;
+use std::fs;
+use std::path::Path;
+
+#[path = "../../oracle/original/substitutions.rs"]
+#[allow(dead_code)]
+mod substitutions;
+use substitutions::{POLICY, WINDOW, substituted};
+
+fn main() -> Result<(), String> {
+    println!("cargo::rerun-if-env-changed=KOFUDILE_SOURCE");
+    println!("cargo::rerun-if-changed=../build.rs");
+    println!("cargo::rerun-if-changed=../../../oracle/original/substitutions.rs");
+    let source = env::var("KOFUDILE_SOURCE").map_err(|_| "KOFUDILE_SOURCE is not set: run bench/run")?;
+    let out = env::var("OUT_DIR").map_err(|error| error.to_string())?;
+    for (file, name) in [(WINDOW, "download_window.rs"), (POLICY, "policy.rs")] {
+        println!("cargo::rerun-if-changed={source}/{file}");
+        let mut text = substituted(Path::new(&source), file)?;
+        if file == WINDOW && env::var("CARGO_FEATURE_CHEAP_HASHER").is_ok() {
+            text = with_cheap_maps(&text)?;
+        }
+        fs::write(Path::new(&out).join(name), text).map_err(|error| error.to_string())?;
+    }
+    Ok(())
+}
+
+/// The first line takes the maps from the shims: here from beside them.
+fn with_cheap_maps(text: &str) -> Result<String, String> {
+    let (first, rest) = text.split_once('\n').ok_or("the original has lines")?;
+    if first.matches("hashbrown, ").count() != 1 {
+        return Err("the first line does not name the maps once".to_string());
+    }
+    Ok(format!("{}\nuse super::cheap::hashbrown;\n{rest}", first.replace("hashbrown, ", "")))
+}

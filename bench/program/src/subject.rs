@@ -1,0 +1,164 @@
+//! What is measured: the same calls, with arguments prepared in each one's own form. An answer is a number, so that answers can be compared.
+
+use std::time::Instant;
+
+pub const SETTINGS: ([usize; 7], [u64; 5]) =
+    ([256, 1 << 40, 256, 256, 16, 300, 256], [600 * SECOND, 60 * SECOND, 2 * SECOND, 64 * SECOND, 64 * SECOND]);
+pub const SECOND: u64 = 1_000_000_000;
+
+pub type Entry = ([u8; 32], u32);
+
+pub trait Subject {
+    type Hash: Copy;
+    type Peer: Copy;
+    type Moment: Copy;
+    type Request;
+
+    fn open() -> Self;
+    fn hash(bytes: [u8; 32]) -> Self::Hash;
+    fn peer(seat: u8) -> Self::Peer;
+    fn moment(&self, clock: u64) -> Self::Moment;
+    fn prepare(owner: u8, entries: &[Entry]) -> Self::Request;
+
+    fn mark_requested(&mut self, request: &Self::Request, now: Self::Moment) -> u64;
+    fn mark_owned_fetch(&mut self, owner: Self::Peer, hash: Self::Hash, height: u32, now: Self::Moment) -> u64;
+    fn mark_received_from(&mut self, hash: Self::Hash, bytes: usize, source: Self::Peer, now: Self::Moment) -> u64;
+    fn reject_delivery(&mut self, hash: Self::Hash, source: Self::Peer, now: Self::Moment) -> u64;
+    fn release_pending(&mut self, hash: Self::Hash, now: Self::Moment) -> u64;
+    fn requeue_for_retry(&mut self, hash: Self::Hash, now: Self::Moment) -> u64;
+    fn expire_pending(&mut self, now: Self::Moment) -> u64;
+    fn retire_before(&mut self, height: u32, now: Self::Moment) -> u64;
+    fn retain_owned_by(&mut self, flags: &[u64; 256]) -> u64;
+    fn mark_peer_unresponsive(&mut self, source: Self::Peer, now: Self::Moment) -> u64;
+    fn observe_blocked(&mut self, next: u32, now: Self::Moment) -> u64;
+    fn expired_pending_capacity(&self, now: Self::Moment) -> u64;
+    fn contains_pending(&self, hash: Self::Hash) -> u64;
+    fn pending_count_for(&self, source: Self::Peer) -> u64;
+    fn has_request_capacity(&self) -> u64;
+    fn max_pending_blocks(&self) -> u64;
+    fn pending_len(&self) -> u64;
+}
+
+macro_rules! original {
+    ($build:ident) => {
+        impl Subject for $build::Original {
+            type Hash = $build::Hash256;
+            type Peer = $build::PeerSource;
+            type Moment = Instant;
+            type Request = $build::Prepared;
+
+            fn open() -> Self {
+                $build::Original::open(SETTINGS.0, SETTINGS.1)
+            }
+
+            fn hash(bytes: [u8; 32]) -> Self::Hash {
+                $build::Hash256(bytes)
+            }
+
+            fn peer(seat: u8) -> Self::Peer {
+                $build::Original::peer(seat)
+            }
+
+            fn moment(&self, clock: u64) -> Instant {
+                self.moment(clock)
+            }
+
+            fn prepare(owner: u8, entries: &[Entry]) -> Self::Request {
+                $build::Original::prepare(owner, entries, 0)
+            }
+
+            #[inline(always)]
+            fn mark_requested(&mut self, request: &Self::Request, now: Instant) -> u64 {
+                self.mark_requested(request, now).into()
+            }
+
+            #[inline(always)]
+            fn mark_owned_fetch(&mut self, owner: Self::Peer, hash: Self::Hash, height: u32, now: Instant) -> u64 {
+                self.mark_owned_fetch(owner, hash, height, now).into()
+            }
+
+            #[inline(always)]
+            fn mark_received_from(&mut self, hash: Self::Hash, bytes: usize, source: Self::Peer, now: Instant) -> u64 {
+                self.mark_received_from(hash, bytes, source, now).map_or(0, |height| 1 + u64::from(height))
+            }
+
+            #[inline(always)]
+            fn reject_delivery(&mut self, hash: Self::Hash, source: Self::Peer, now: Instant) -> u64 {
+                self.reject_delivery(hash, source, now).into()
+            }
+
+            #[inline(always)]
+            fn release_pending(&mut self, hash: Self::Hash, now: Instant) -> u64 {
+                self.release_pending(&hash, now);
+                0
+            }
+
+            #[inline(always)]
+            fn requeue_for_retry(&mut self, hash: Self::Hash, now: Instant) -> u64 {
+                self.requeue_for_retry(&hash, now);
+                0
+            }
+
+            #[inline(always)]
+            fn expire_pending(&mut self, now: Instant) -> u64 {
+                self.expire_pending(now) as u64
+            }
+
+            #[inline(always)]
+            fn retire_before(&mut self, height: u32, now: Instant) -> u64 {
+                self.retire_before(height, now);
+                0
+            }
+
+            #[inline(always)]
+            fn retain_owned_by(&mut self, flags: &[u64; 256]) -> u64 {
+                self.retain_owned_by(flags);
+                0
+            }
+
+            #[inline(always)]
+            fn mark_peer_unresponsive(&mut self, source: Self::Peer, now: Instant) -> u64 {
+                self.mark_peer_unresponsive(source, now);
+                0
+            }
+
+            #[inline(always)]
+            fn observe_blocked(&mut self, next: u32, now: Instant) -> u64 {
+                self.observe_blocked(next, now)
+            }
+
+            #[inline(always)]
+            fn expired_pending_capacity(&self, now: Instant) -> u64 {
+                let (blocks, bytes) = self.expired_pending_capacity(now);
+                (blocks + bytes) as u64
+            }
+
+            #[inline(always)]
+            fn contains_pending(&self, hash: Self::Hash) -> u64 {
+                self.contains_pending(&hash).into()
+            }
+
+            #[inline(always)]
+            fn pending_count_for(&self, source: Self::Peer) -> u64 {
+                self.pending_count_for(source) as u64
+            }
+
+            #[inline(always)]
+            fn has_request_capacity(&self) -> u64 {
+                self.has_request_capacity().into()
+            }
+
+            #[inline(always)]
+            fn max_pending_blocks(&self) -> u64 {
+                self.max_pending_blocks() as u64
+            }
+
+            fn pending_len(&self) -> u64 {
+                self.pending_len() as u64
+            }
+        }
+    };
+}
+
+original!(bench_own_maps);
+original!(bench_cheap_hasher);

@@ -1,0 +1,220 @@
+//! The results as text and as a picture.
+
+use crate::rows::{OWNERS, Row};
+use std::collections::BTreeMap;
+use std::fmt::Write;
+
+/// In nanoseconds; of the check, `own_maps` and `cheap` are the same check in Rust.
+#[derive(Clone, Copy)]
+pub struct Medians {
+    pub ours: f64,
+    pub own_maps: f64,
+    pub cheap: f64,
+}
+
+pub struct Results {
+    pub medians: BTreeMap<(Row, usize), Medians>,
+    pub rounds: usize,
+    pub load: String,
+}
+
+/// Rows with a target in design.md, section 4, in its order.
+const AIMED: [(Row, &str, &str); 8] = [
+    (Row::Check, "window check alone, whole head", "≤ 1.0 of the check in Rust, ≤ 0.9 µs"),
+    (Row::Delivery, "delivery, any place", "≤ 1.8 of the Rust, ≤ check + 0.5 µs"),
+    (Row::RequestOne, "request of one entry", "≤ check + 0.5 µs"),
+    (Row::RequestAll, "request of 256 entries, empty window", "≤ 2 of the Rust"),
+    (Row::Observation, "observation", "≤ 0.35 of the Rust"),
+    (Row::Forecast, "forecast", "≤ 0.35 of the Rust"),
+    (Row::Sweep, "sweep of 256 entries", "≤ 0.5 of the Rust"),
+    (Row::OneOfEach, "one of each", "≤ 0.5 of the Rust"),
+];
+
+const OTHERS: [(Row, &str); 12] = [
+    (Row::IdleSweep, "sweep that takes nothing"),
+    (Row::OwnedFetch, "owned fetch, asked"),
+    (Row::Rejection, "rejection by the owner"),
+    (Row::Release, "release of one"),
+    (Row::Retry, "retry of one"),
+    (Row::Retirement, "retirement of all"),
+    (Row::LostSeat, "a seat of eight lost"),
+    (Row::Unresponsive, "peer unresponsive"),
+    (Row::Contains, "is a hash pending"),
+    (Row::CountFor, "a seat's entries counted"),
+    (Row::Capacity, "room for one more"),
+    (Row::Setting, "a setting read: the check, in these windows"),
+];
+
+/// What was reached of one target.
+struct Reached {
+    /// For each condition, in the table's words.
+    text: String,
+    with_own_maps: bool,
+    with_cheap: bool,
+}
+
+impl Results {
+    fn at(&self, row: Row, pending: usize) -> Option<Medians> {
+        self.medians.get(&(row, pending)).copied()
+    }
+
+    fn reached(&self, row: Row) -> Option<Reached> {
+        let m = self.at(row, 256)?;
+        let check = self.at(Row::Setting, 256)?.ours;
+        let (own, cheap) = (m.ours / m.own_maps, m.ours / m.cheap);
+        let ratio =
+            |most: f64| Reached {
+                text: format!("{own:.2} … {cheap:.2}"), with_own_maps: own <= most, with_cheap: cheap <= most
+            };
+        Some(match row {
+            Row::Check => {
+                let holds = own <= 1.0 && m.ours <= 900.0;
+                Reached { text: format!("{own:.2}, {:.2} µs", m.ours / 1e3), with_own_maps: holds, with_cheap: holds }
+            }
+            Row::Delivery => {
+                let over = m.ours <= check + 500.0;
+                Reached {
+                    text: format!("{own:.2} … {cheap:.2}, check + {:.2} µs", (m.ours - check) / 1e3),
+                    with_own_maps: own <= 1.8 && over,
+                    with_cheap: cheap <= 1.8 && over,
+                }
+            }
+            Row::RequestOne => {
+                let over = m.ours <= check + 500.0;
+                Reached { text: format!("check + {:.2} µs", (m.ours - check) / 1e3), with_own_maps: over, with_cheap: over }
+            }
+            Row::RequestAll => ratio(2.0),
+            Row::Observation | Row::Forecast => ratio(0.35),
+            _ => ratio(0.5),
+        })
+    }
+
+    /// What ours may take at most, beside the Rust with its own maps.
+    fn most(&self, row: Row) -> Option<f64> {
+        let (m, check) = (self.at(row, 256)?, self.at(Row::Setting, 256)?.ours);
+        Some(match row {
+            Row::Check => m.own_maps.min(900.0),
+            Row::Delivery => (1.8 * m.own_maps).min(check + 500.0),
+            Row::RequestOne => check + 500.0,
+            Row::RequestAll => 2.0 * m.own_maps,
+            Row::Observation | Row::Forecast => 0.35 * m.own_maps,
+            _ => 0.5 * m.own_maps,
+        })
+    }
+
+    pub fn text(&self) -> String {
+        let mut text = self.heading();
+        let _ = writeln!(text, "\n## Against the targets: 256 pending\n");
+        let _ = writeln!(
+            text,
+            "| work | ours | the Rust, own maps | the Rust, cheap hasher | target | reached | met (own maps … cheap hasher) |"
+        );
+        let _ = writeln!(text, "|---|---|---|---|---|---|---|");
+        for (row, name, target) in AIMED {
+            let Some((m, reached)) = self.at(row, 256).zip(self.reached(row)) else {
+                let _ = writeln!(text, "| {name} | not in the library yet | | | {target} | | |");
+                continue;
+            };
+            let said = |met| if met { "yes" } else { "no" };
+            let met = match (row, reached.with_own_maps, reached.with_cheap) {
+                (Row::Check | Row::RequestOne, met, _) => said(met).to_string(),
+                (_, own, cheap) => format!("{} … {}", said(own), said(cheap)),
+            };
+            let rust = if row == Row::Check { [us(m.own_maps), "–".into()] } else { [us(m.own_maps), us(m.cheap)] };
+            let _ =
+                writeln!(text, "| {name} | {} | {} | {} | {target} | {} | {met} |", us(m.ours), rust[0], rust[1], reached.text);
+        }
+        let _ =
+            writeln!(text, "\n## At 0, 8, 128 and 256 pending\n\nOurs / the Rust with its own maps / with a cheap hasher, µs.\n");
+        let _ = writeln!(text, "| work | 0 | 8 | 128 | 256 |\n|---|---|---|---|---|");
+        let names = AIMED.iter().map(|(row, name, _)| (*row, name.replace("256 entries", "all entries")));
+        for (row, name) in names.chain(OTHERS.iter().map(|(row, name)| (*row, name.to_string()))) {
+            let cell = |pending| {
+                self.at(row, pending).map_or("–".to_string(), |m| match row {
+                    Row::Check => format!("{} / {}", short(m.ours), short(m.own_maps)),
+                    _ => format!("{} / {} / {}", short(m.ours), short(m.own_maps), short(m.cheap)),
+                })
+            };
+            let _ = writeln!(text, "| {name} | {} | {} | {} | {} |", cell(0), cell(8), cell(128), cell(256));
+        }
+        text
+    }
+
+    fn heading(&self) -> String {
+        let cpu = std::fs::read_to_string("/proc/cpuinfo").unwrap_or_default();
+        let model = cpu.lines().find_map(|line| line.strip_prefix("model name\t: ")).unwrap_or("unknown").to_string();
+        let cores = cpu.lines().filter(|line| line.starts_with("processor")).count();
+        let calls = self.rounds * 100;
+        format!(
+            "# Times beside the Rust\n\nWritten by `bench/run`; bench/README.md says how it measures. Medians of {calls} calls each ({} of sweeps, retirements and \
+             lost seats), {OWNERS} owners, on {cores} cores ({model}), load {} at the start.\n",
+            calls / 5,
+            self.load
+        )
+    }
+
+    /// A bar for each of the three, row by row, each row to its own scale.
+    pub fn picture(&self) -> String {
+        let rows: Vec<(&str, Medians, Option<Reached>, Row)> =
+            AIMED.iter().filter_map(|(row, name, _)| Some((*name, self.at(*row, 256)?, self.reached(*row), *row))).collect();
+        let (width, left, room, step) = (860.0, 250.0, 440.0, 62.0);
+        let height = 66.0 + step * rows.len() as f64;
+        let mut svg = format!(
+            "<svg xmlns=\"http://www.w3.org/2000/svg\" width=\"{width}\" height=\"{height}\" viewBox=\"0 0 {width} {height}\" \
+             font-family=\"sans-serif\" font-size=\"12\">\n<rect width=\"100%\" height=\"100%\" fill=\"#ffffff\"/>\n\
+             <text x=\"16\" y=\"24\" font-size=\"15\" font-weight=\"bold\">Medians at 256 pending, µs; each row to its own scale; red: the target</text>\n"
+        );
+        let legend = [
+            ("#1b7f5c", "ours, with refusals and the whole check"),
+            ("#8a8f98", "the Rust, own maps"),
+            ("#c3c7cd", "the Rust, cheap hasher"),
+        ];
+        for (i, (colour, name)) in legend.iter().enumerate() {
+            let x = 16.0 + 270.0 * i as f64;
+            let _ = writeln!(
+                svg,
+                "<rect x=\"{x}\" y=\"36\" width=\"12\" height=\"12\" fill=\"{colour}\"/><text x=\"{}\" y=\"46\">{name}</text>",
+                x + 18.0
+            );
+        }
+        for (i, (name, m, reached, row)) in rows.iter().enumerate() {
+            let top = 62.0 + step * i as f64;
+            let target = self.most(*row).unwrap_or(0.0);
+            let most = m.ours.max(m.own_maps).max(m.cheap).max(target);
+            let _ = writeln!(svg, "<text x=\"{}\" y=\"{}\" text-anchor=\"end\">{name}</text>", left - 10.0, top + 28.0);
+            let bars = [(m.ours, legend[0].0, 0.0), (m.own_maps, legend[1].0, 17.0), (m.cheap, legend[2].0, 34.0)];
+            for (value, colour, down) in bars.iter().take(if *row == Row::Check { 2 } else { 3 }) {
+                let long = (room * value / most).max(1.0);
+                let _ = writeln!(
+                    svg,
+                    "<rect x=\"{left}\" y=\"{}\" width=\"{long:.1}\" height=\"14\" fill=\"{colour}\"/><text x=\"{:.1}\" y=\"{}\">{}</text>",
+                    top + down,
+                    left + long + 6.0,
+                    top + down + 11.0,
+                    short(*value)
+                );
+            }
+            let at = left + room * target / most;
+            let _ = writeln!(svg, "<rect x=\"{at:.1}\" y=\"{}\" width=\"2\" height=\"18\" fill=\"#c0392b\"/>", top - 2.0);
+            if let Some(reached) = reached {
+                let _ = writeln!(
+                    svg,
+                    "<text x=\"{}\" y=\"{}\" text-anchor=\"end\" fill=\"#555\">{}</text>",
+                    left - 10.0,
+                    top + 44.0,
+                    reached.text
+                );
+            }
+        }
+        svg + "</svg>\n"
+    }
+}
+
+fn short(ns: f64) -> String {
+    let us = ns / 1e3;
+    if us < 10.0 { format!("{us:.2}") } else { format!("{us:.1}") }
+}
+
+fn us(ns: f64) -> String {
+    format!("{} µs", short(ns))
+}

@@ -1,0 +1,109 @@
+/*
+ * A small host: opens a window, asks two peers for blocks, takes deliveries, sees a refusal, sweeps what was never sent. From the repository's root:
+ *
+ *   rt staticlib export && cc -O2 -Iinclude include/example.c -Ltarget/staticlib -lexport -o target/example && target/example
+ *
+ * include/example.stdout is what it prints.
+ */
+#include <inttypes.h>
+#include <stdio.h>
+#include <stdlib.h>
+
+#include "kofudile.h"
+
+#define SECOND UINT64_C(1000000000)
+#define NO_LIMIT UINT64_MAX
+
+/* The window and the report: the host's own memory, lent to each call. */
+static uint64_t words[KOFUDILE_WORDS];
+static kofudile_release report[KOFUDILE_PLACES];
+
+/* A made-up hash for the block at a height. */
+static kofudile_hash block(uint32_t height) {
+    uint8_t bytes[32] = {0};
+    bytes[0] = (uint8_t)(height * 37);
+    bytes[31] = (uint8_t)height;
+    return kofudile_hash_of(bytes);
+}
+
+/* Requests blocks first .. first + count - 1 of a peer; answers the refusal. */
+static uint64_t request(uint64_t seat, uint32_t first, uint32_t count, uint64_t clock) {
+    uint64_t hashes[4 * 16];
+    uint32_t heights[16];
+    for (uint32_t i = 0; i < count; i++) {
+        kofudile_hash hash = block(first + i);
+        hashes[4 * i] = hash.a, hashes[4 * i + 1] = hash.b, hashes[4 * i + 2] = hash.c, hashes[4 * i + 3] = hash.d;
+        heights[i] = first + i;
+    }
+    kofudile_number said = kofudile_mark_requested(
+        words, KOFUDILE_WORDS, seat, hashes, 4 * count, heights, count, first + count, NO_LIMIT, NO_LIMIT, clock);
+    if (said.refused == 0)
+        printf("asked seat %" PRIu64 " for blocks %" PRIu32 " to %" PRIu32 "; room for more: %s\n", seat, first, first + count - 1,
+            said.value ? "yes" : "no");
+    return said.refused;
+}
+
+static void show(const char *what, uint64_t places) {
+    printf("%s: %" PRIu64 " gone\n", what, places);
+    for (uint64_t i = 0; i < places; i++)
+        printf("  block %" PRIu64 " of seat %" PRIu64 ", reason %" PRIu64 "\n", report[i].entry.height, report[i].entry.owner, report[i].reason);
+}
+
+static void status(void) {
+    printf("pending %" PRIu64 " blocks, %" PRIu64 " bytes; frontier %" PRIu64 "\n", kofudile_pending_len(words, KOFUDILE_WORDS).value,
+        kofudile_pending_bytes(words, KOFUDILE_WORDS).value, kofudile_request_cursor(words, KOFUDILE_WORDS).value);
+}
+
+static void must(uint64_t refused) {
+    if (refused != 0) {
+        printf("refused: %" PRIu64 "\n", refused);
+        exit(1);
+    }
+}
+
+int main(void) {
+    uint64_t keys[KOFUDILE_SEATS];
+    for (uint64_t seat = 0; seat < KOFUDILE_SEATS; seat++) keys[seat] = seat;
+    kofudile_settings settings = {
+        .max_pending_blocks = 256,
+        .max_pending_bytes = UINT64_C(536870912),
+        .max_received_blocks = 256,
+        .max_peer_inflight = 256,
+        .fanout_peer_inflight = 16,
+        .min_peers_for_fanout = 8,
+        .getdata_batch_limit = 256,
+        .block_spacing = 600 * SECOND,
+        .received_timeout = 60 * SECOND,
+        .stall_timeout_initial = 2 * SECOND,
+        .stall_timeout_max = 64 * SECOND,
+        .staller_cooldown = 64 * SECOND,
+    };
+
+    printf("before the opening: refused by %" PRIu64 "\n", kofudile_pending_len(words, KOFUDILE_WORDS).refused);
+    must(kofudile_open(words, KOFUDILE_WORDS, settings, keys, KOFUDILE_SEATS, 0));
+    must(request(3, 1, 4, 1 * SECOND));
+    must(request(7, 5, 2, 1 * SECOND));
+    status();
+    printf("block 4 again: refused by %" PRIu64 "\n", request(7, 4, 3, 2 * SECOND));
+
+    kofudile_received body = kofudile_mark_received_from(
+        words, KOFUDILE_WORDS, report, KOFUDILE_PLACES, block(1), 1000000, true, 3, 3 * SECOND);
+    must(body.refused);
+    show("a body of block 1", body.places);
+    kofudile_rejected bad =
+        kofudile_reject_delivery(words, KOFUDILE_WORDS, report, KOFUDILE_PLACES, block(5), true, 7, 4 * SECOND);
+    must(bad.refused);
+    show("a bad body of block 5", bad.places);
+    status();
+
+    uint64_t late = 4 * SECOND + kofudile_effective_owner_timeout(words, KOFUDILE_WORDS).value;
+    kofudile_pair forecast = kofudile_expired_pending_capacity(words, KOFUDILE_WORDS, late);
+    must(forecast.refused);
+    printf("a sweep then would let go %" PRIu64 " blocks, %" PRIu64 " bytes, or more\n", forecast.first, forecast.second);
+    kofudile_gone swept = kofudile_expire_pending(words, KOFUDILE_WORDS, report, KOFUDILE_PLACES, late);
+    must(swept.refused);
+    show("the sweep", swept.places);
+    status();
+    printf("the clock back: refused by %" PRIu64 "\n", kofudile_expired_pending_capacity(words, KOFUDILE_WORDS, late - 1).refused);
+    return 0;
+}

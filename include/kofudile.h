@@ -1,0 +1,345 @@
+/*
+ * Kofudile: the table of blocks that a node has asked for and not yet received.
+ *
+ * Link libexport.a (`rt staticlib export` writes target/staticlib/libexport.a; x86-64, System V calls). It keeps nothing of its own: no globals, no
+ * allocation, no clock, no threads. All state is in 4,096 words that the host lends with each call. include/example.c is a whole host.
+ *
+ * WHAT IS LENT, AND FOR HOW LONG
+ *   words    the window: 4,096 of uint64_t, 32 KiB. The host owns them for as long as it likes, may copy, save and load them, and lends them to one
+ *            call at a time. Nothing points into them after a call returns. docs/LAYOUT.md says what each word means.
+ *   report   where a call that lets entries go writes them: 256 or more of kofudile_release. The answer's `places` says how many were written, from the
+ *            first place on; places after them are as they were. Lent for the one call.
+ *   lists    hashes, heights, keys, flags, alternates: read during the call only.
+ * A list is a pointer and then its length, counted in elements. The library trusts the host in this alone:
+ *   - a pointer is not null, also with length 0, and that many elements may be read (written: words, report);
+ *   - what is lent for writing overlaps no other argument, and no other thread touches it during the call. Several threads may query one window;
+ *   - a bool is 0 or 1.
+ * Everything else is checked: any length, any words, any numbers give an answer and never undefined behaviour.
+ *
+ * TERMS
+ *   seat     0 to 255: the host's number for a connection. Key: 0 to 255, one for each seat, for the address behind it; cooling goes by key.
+ *   clock    nanoseconds from any start that the host chooses, at most 2^62, never going back between accepted calls. Durations are nanoseconds.
+ *   hash     32 bytes as four words, the first byte highest: kofudile_hash_of.
+ *   entry    a block asked for: hash, owner seat, time of the request, height, estimate of its bytes.
+ *   frontier the height from which the host looks for blocks to request next (kofudile_request_cursor).
+ *   mean     of block bytes, moved by each body; an entry's estimate is the mean at its request.
+ *   headroom how many bytes and blocks may still be staged, as the host's staging area finds it; UINT64_MAX for no limit.
+ *   A value that may be missing is `has_x` and then `x`; where `has_x` is false, `x` is not read.
+ *
+ * ANSWERS
+ *   An answer begins with `refused`: 0, or one of the nine numbers below, and then every other field is 0. A call that answers a plain uint64_t
+ *   answers that number. A refused call changes nothing: words and report are as they were. Of several causes the lowest number is answered.
+ *   The comment `refused by ..` of a call lists all that it can answer.
+ */
+#ifndef KOFUDILE_H
+#define KOFUDILE_H
+
+#include <stdbool.h>
+#include <stddef.h>
+#include <stdint.h>
+
+#ifdef __cplusplus
+extern "C" {
+#endif
+
+#define KOFUDILE_WORDS 4096 /* length of `words` */
+#define KOFUDILE_PLACES 256 /* least length of `report`, and most entries pending */
+#define KOFUDILE_SEATS 256  /* length of `keys` and `flags` */
+
+/* Why a call was refused, and who caused it. */
+enum {
+    KOFUDILE_DONE = 0,
+    /* The host, by memory it lends. */
+    KOFUDILE_WORDS_LENGTH = 1, /* words_len is not 4,096 */
+    KOFUDILE_NO_WINDOW = 2,    /* the words are not a window: never opened, or damaged since */
+    KOFUDILE_SHORT_REPORT = 3, /* report_len is under 256 */
+    /* The host, by clock and settings. */
+    KOFUDILE_CLOCK = 4,    /* the clock is above 2^62, or before that of the last accepted call that took one */
+    KOFUDILE_SETTINGS = 5, /* opening: a duration above 10^15, max_pending_bytes above 2^40, max_pending_blocks above 256, another count above 65,535 */
+    /* Whoever names a peer. */
+    KOFUDILE_PEER = 6, /* a seat or key above 255, not 256 keys or flags, more than 256 alternates */
+    /* Whoever builds a request. */
+    KOFUDILE_DUPLICATE = 7, /* a hash of the request is pending already, or is listed twice */
+    KOFUDILE_TOO_MANY = 8,  /* pending and listed entries together are more than 256 */
+    /* A peer. */
+    KOFUDILE_BODY_SIZE = 9 /* a body above 4,294,967,295 bytes */
+};
+
+/* Why an entry went. All but DELIVERED, RELEASED and RETIRED lower the frontier to the entry's height. */
+enum {
+    KOFUDILE_DELIVERED = 1,        /* its body came, from whomever */
+    KOFUDILE_OWNER_REJECTED = 2,   /* its owner's body was rejected */
+    KOFUDILE_RETRY = 3,            /* kofudile_requeue_for_retry */
+    KOFUDILE_RELEASED = 4,         /* kofudile_release_pending */
+    KOFUDILE_RETIRED = 5,          /* kofudile_retire_before */
+    KOFUDILE_OWNER_TIMED_OUT = 6,  /* sweep: its owner's time was out */
+    KOFUDILE_PASSED_OVER = 7,      /* sweep: its owner sent a later body, and the stall wait had passed */
+    KOFUDILE_SEAT_LOST = 8,        /* kofudile_retain_owned_by */
+    KOFUDILE_PREFIX_RACE_LOST = 9, /* its owner lost a prefix race */
+    KOFUDILE_HEDGE_LOST = 10       /* its owner lost the race for a cold front */
+};
+
+/* What kofudile_mark_owned_fetch says. */
+enum {
+    KOFUDILE_HELD = 0,       /* it was pending already: nothing changed but the clock */
+    KOFUDILE_STAGED = 1,     /* the host said that its body is staged: the same */
+    KOFUDILE_ASKED = 2,      /* it is pending now */
+    KOFUDILE_NO_CAPACITY = 3 /* the window, the owner or the staging area has no room: the same */
+};
+
+/* What kofudile_observe_blocked decides. */
+enum {
+    KOFUDILE_NOTHING = 0,
+    KOFUDILE_BLAME_STALLER = 1,         /* owner: it holds up the whole window; it cools from now on */
+    KOFUDILE_BLAME_PENDING_TIMEOUT = 2, /* owner: its time was out at two looks; it cools from now on */
+    KOFUDILE_EVICT_STAGED = 3,          /* height, hash, suppressed: applying is stuck on this staged block for so long: drop it */
+    KOFUDILE_HEDGE_COLD_FRONT = 4       /* owner, hash: ask another peer for this block too, then kofudile_confirm_cold_front_hedge */
+};
+
+typedef struct {
+    uint64_t a, b, c, d;
+} kofudile_hash;
+
+typedef struct {
+    kofudile_hash hash;
+    uint64_t owner, time, height, estimate;
+} kofudile_entry;
+
+typedef struct {
+    kofudile_entry entry;
+    uint64_t reason;
+} kofudile_release;
+
+/* The original's limits of the same names; durations in nanoseconds. */
+typedef struct {
+    uint64_t max_pending_blocks, max_pending_bytes, max_received_blocks, max_peer_inflight, fanout_peer_inflight, min_peers_for_fanout,
+        getdata_batch_limit, block_spacing, received_timeout, stall_timeout_initial, stall_timeout_max, staller_cooldown;
+} kofudile_settings;
+
+/* A number; of a yes or no, 1 or 0. */
+typedef struct {
+    uint64_t refused, value;
+} kofudile_number;
+
+typedef struct {
+    uint64_t refused, first, second;
+} kofudile_pair;
+
+/* present 1: the value. present 0: there is none, and it reads 0. */
+typedef struct {
+    uint64_t refused, present, value;
+} kofudile_perhaps;
+
+typedef struct {
+    uint64_t refused, present, first, second;
+} kofudile_perhaps_pair;
+
+/* places: how many releases the report holds. */
+typedef struct {
+    uint64_t refused, places;
+} kofudile_gone;
+
+/* present 1: it was pending, at this height. */
+typedef struct {
+    uint64_t refused, places, present, height;
+} kofudile_received;
+
+/* released 1: the source owned it and it went. released 0: the source did not own it, and the body is only discarded. */
+typedef struct {
+    uint64_t refused, places, released;
+} kofudile_rejected;
+
+/* Fields that a decision does not name are 0. */
+typedef struct {
+    uint64_t refused, decision, owner, height, suppressed;
+    kofudile_hash hash;
+} kofudile_blocked;
+
+/* present 1: ask others too for `count` blocks of `owner`, the last at end_height. */
+typedef struct {
+    uint64_t refused, present, owner, count, end_height;
+} kofudile_plan;
+
+/* The first `count` of the plan; 0 after them, and throughout without a plan. */
+typedef struct {
+    kofudile_hash hashes[8];
+} kofudile_hashes;
+
+/* ---- Opening ---- */
+
+/*
+ * Makes the words an empty window, whatever they held: frontier 1, mean 262,144. keys: the key of each seat, 256 of them. The clock only has to be
+ * at most 2^62; later ones count from it. refused by 1, 4, 5, 6
+ */
+uint64_t kofudile_open(uint64_t *words, size_t words_len, kofudile_settings settings, const uint64_t *keys, size_t keys_len, uint64_t clock);
+
+/* ---- Requests ---- */
+
+/*
+ * The host sent this request to owner: its entries are pending from now. hashes: four words each; heights: one each; the request is the first
+ * min(hashes_len / 4, heights_len) of them, and may be empty. next: the frontier is raised to it. The headrooms are those with the entries in.
+ * value 1: there is room for more. A request may pass max_pending_blocks, not 256. refused by 1, 2, 4, 6, 7, 8
+ */
+kofudile_number kofudile_mark_requested(uint64_t *words, size_t words_len, uint64_t owner, const uint64_t *hashes, size_t hashes_len,
+    const uint32_t *heights, size_t heights_len, uint32_t next, uint64_t byte_headroom, uint64_t count_headroom, uint64_t clock);
+
+/*
+ * The host would fetch one block from owner, out of turn; is_staged: whether its body is staged. value: KOFUDILE_HELD, _STAGED, _ASKED or
+ * _NO_CAPACITY; only after ASKED is a message to be sent. refused by 1, 2, 4, 6
+ */
+kofudile_number kofudile_mark_owned_fetch(uint64_t *words, size_t words_len, uint64_t owner, kofudile_hash hash, uint32_t height, bool is_staged,
+    uint64_t byte_headroom, uint64_t count_headroom, uint64_t clock);
+
+/* ---- Deliveries ---- */
+
+/*
+ * A body came: its entry goes (DELIVERED, first in the report), whoever sent it; the source, if there is one, is credited, which may decide a race and
+ * let the losers' entries go (PREFIX_RACE_LOST, HEDGE_LOST, by rising hash); the mean moves. refused by 1, 2, 3, 4, 6, 9
+ */
+kofudile_received kofudile_mark_received_from(uint64_t *words, size_t words_len, kofudile_release *report, size_t report_len,
+    kofudile_hash hash, uint64_t bytes, bool has_source, uint64_t source, uint64_t clock);
+
+/* Credits the source alone, as above: the entry and the mean stay. height: where it was pending, if it was. refused by 1, 2, 3, 4, 6 */
+kofudile_gone kofudile_credit_delivery_from(uint64_t *words, size_t words_len, kofudile_release *report, size_t report_len,
+    kofudile_hash hash, uint64_t source, bool has_height, uint32_t height, uint64_t clock);
+
+/* The source sent what was there already: an observation of it and this hash is dropped. refused by 1, 2, 6 */
+uint64_t kofudile_credit_duplicate_delivery(uint64_t *words, size_t words_len, kofudile_hash hash, uint64_t source);
+
+/* A body was no good: if the source owned the entry, the entry goes (OWNER_REJECTED). refused by 1, 2, 3, 4, 6 */
+kofudile_rejected kofudile_reject_delivery(uint64_t *words, size_t words_len, kofudile_release *report, size_t report_len,
+    kofudile_hash hash, bool has_source, uint64_t source, uint64_t clock);
+
+/* ---- Letting go ---- */
+
+/* The sweep: entries of owners whose time is out, and entries passed over, go (OWNER_TIMED_OUT, PASSED_OVER, by rising hash). refused by 1, 2, 3, 4 */
+kofudile_gone kofudile_expire_pending(uint64_t *words, size_t words_len, kofudile_release *report, size_t report_len, uint64_t clock);
+
+/* The block is to be asked again: its entry, if any, goes (RETRY); the frontier is lowered to height too, entry or none. refused by 1, 2, 3, 4 */
+kofudile_gone kofudile_requeue_for_retry(uint64_t *words, size_t words_len, kofudile_release *report, size_t report_len,
+    kofudile_hash hash, bool has_height, uint32_t height, uint64_t clock);
+
+/* The block is no longer wanted: its entry, if any, goes (RELEASED), the frontier stays. refused by 1, 2, 3, 4 */
+kofudile_gone kofudile_release_pending(uint64_t *words, size_t words_len, kofudile_release *report, size_t report_len,
+    kofudile_hash hash, uint64_t clock);
+
+/* Every entry below height goes (RETIRED, by rising hash), the frontier stays. refused by 1, 2, 3, 4 */
+kofudile_gone kofudile_retire_before(uint64_t *words, size_t words_len, kofudile_release *report, size_t report_len,
+    uint32_t height, uint64_t clock);
+
+/* Seats whose flag is 0 are gone: their entries go (SEAT_LOST, by rising hash) and races forget them. 256 flags. refused by 1, 2, 3, 6 */
+kofudile_gone kofudile_retain_owned_by(uint64_t *words, size_t words_len, kofudile_release *report, size_t report_len,
+    const uint64_t *flags, size_t flags_len);
+
+/* ---- Peers and races ---- */
+
+/* The source's key cools from now on: see kofudile_peer_in_staller_cooldown. refused by 1, 2, 4, 6 */
+uint64_t kofudile_mark_peer_unresponsive(uint64_t *words, size_t words_len, uint64_t source, uint64_t clock);
+
+/*
+ * The host asked the alternates too for the blocks of kofudile_prefix_probe_plan: the race begins. given: the plan's hashes, four words each. If owner
+ * and hashes are not those of the plan as it is now, or there is no alternate, nothing changes but the clock. refused by 1, 2, 4, 6
+ */
+uint64_t kofudile_confirm_prefix_probe(uint64_t *words, size_t words_len, uint64_t owner, const uint64_t *given, size_t given_len,
+    const uint64_t *alternates, size_t alternates_len, uint64_t clock);
+
+/* The host asked the alternate too for the block of KOFUDILE_HEDGE_COLD_FRONT. Does nothing if the window waits for another. refused by 1, 2, 6 */
+uint64_t kofudile_confirm_cold_front_hedge(uint64_t *words, size_t words_len, uint64_t owner, uint64_t alternate, kofudile_hash hash);
+
+/*
+ * The look at a blocked window, to be made again and again: what to do. next: the height to be applied next, if known. frontier: the hash staged at
+ * that height, if any (the apply side's frontier, not the window's). busy: applying is at work. staged: how many blocks are staged. highest: the
+ * greatest height of a staged hash that the tree knows. refused by 1, 2, 4
+ */
+kofudile_blocked kofudile_observe_blocked(uint64_t *words, size_t words_len, bool has_next, uint32_t next,
+    bool has_frontier, kofudile_hash frontier, bool busy, uint64_t staged, bool has_highest, uint32_t highest, uint64_t clock);
+
+/* So many peers may be asked: with enough of them fan-out engages, and a prefix race ends. refused by 1, 2, 4 */
+uint64_t kofudile_set_fanout_eligible_peers(uint64_t *words, size_t words_len, uint64_t eligible, uint64_t clock);
+
+/* Forgets the winner of the last race. refused by 1, 2 */
+uint64_t kofudile_clear_preferred_peer(uint64_t *words, size_t words_len);
+
+/* ---- Queries: none writes anything. A clock is refused by 4 as in calls, a seat by 6. ---- */
+
+/* How many entries are pending, and the sum of their estimates. refused by 1, 2 */
+kofudile_number kofudile_pending_len(const uint64_t *words, size_t words_len);
+kofudile_number kofudile_pending_bytes(const uint64_t *words, size_t words_len);
+/* The most blocks, and the most bytes, that were pending at one time. refused by 1, 2 */
+kofudile_pair kofudile_pending_high_water(const uint64_t *words, size_t words_len);
+/* Whether the hash is pending; its owner. refused by 1, 2 */
+kofudile_number kofudile_contains_pending(const uint64_t *words, size_t words_len, kofudile_hash hash);
+kofudile_perhaps kofudile_pending_owner(const uint64_t *words, size_t words_len, kofudile_hash hash);
+/* The frontier; the mean. refused by 1, 2 */
+kofudile_number kofudile_request_cursor(const uint64_t *words, size_t words_len);
+kofudile_number kofudile_ewma_block_bytes(const uint64_t *words, size_t words_len);
+
+/* Two settings. refused by 1, 2 */
+kofudile_number kofudile_max_pending_blocks(const uint64_t *words, size_t words_len);
+kofudile_number kofudile_min_peers_for_fanout(const uint64_t *words, size_t words_len);
+/* Whether fan-out is engaged; how many entries one peer may own now. refused by 1, 2 */
+kofudile_number kofudile_fanout_active(const uint64_t *words, size_t words_len);
+kofudile_number kofudile_effective_peer_inflight(const uint64_t *words, size_t words_len);
+/* Whether there is room for one more block. refused by 1, 2 */
+kofudile_number kofudile_has_request_capacity(const uint64_t *words, size_t words_len, uint64_t byte_headroom, uint64_t count_headroom);
+/* How many blocks the seat may be asked for, and how many bytes there is room for; absent where it is none. refused by 1, 2, 6 */
+kofudile_perhaps_pair kofudile_compute_request_capacity(const uint64_t *words, size_t words_len, uint64_t seat, uint64_t byte_headroom,
+    uint64_t count_headroom);
+
+/* How many entries the seat owns; whether it owns any; since when it is waited for. refused by 1, 2, 6 */
+kofudile_number kofudile_pending_count_for(const uint64_t *words, size_t words_len, uint64_t seat);
+kofudile_number kofudile_is_downloading(const uint64_t *words, size_t words_len, uint64_t seat);
+kofudile_perhaps kofudile_owner_queue_start(const uint64_t *words, size_t words_len, uint64_t seat);
+/* How many seats own entries; how long an owner may take with that many. refused by 1, 2 */
+kofudile_number kofudile_active_downloading_peers(const uint64_t *words, size_t words_len);
+kofudile_number kofudile_effective_owner_timeout(const uint64_t *words, size_t words_len);
+/* Whether the seat's time is out; whether its key cools. refused by 1, 2, 4, 6 */
+kofudile_number kofudile_peer_has_expired_pending(const uint64_t *words, size_t words_len, uint64_t seat, uint64_t clock);
+kofudile_number kofudile_peer_in_staller_cooldown(const uint64_t *words, size_t words_len, uint64_t seat, uint64_t clock);
+/* The forecast: blocks and bytes of owners whose time is out. A sweep at that clock lets go these at least. refused by 1, 2, 4 */
+kofudile_pair kofudile_expired_pending_capacity(const uint64_t *words, size_t words_len, uint64_t clock);
+
+/* The key that holds up the window, and since when. refused by 1, 2 */
+kofudile_perhaps_pair kofudile_stalling_peer(const uint64_t *words, size_t words_len);
+/* The stall wait, its floor, and the mean time in ms between advances of the front. refused by 1, 2 */
+kofudile_number kofudile_stall_timeout(const uint64_t *words, size_t words_len);
+kofudile_number kofudile_stall_decay_floor(const uint64_t *words, size_t words_len);
+kofudile_perhaps kofudile_front_interval_ewma_ms(const uint64_t *words, size_t words_len);
+
+/* The seat that won the last race. refused by 1, 2 */
+kofudile_perhaps kofudile_preferred_peer(const uint64_t *words, size_t words_len);
+/* A race that is worth while now, and its hashes (0 throughout where refused). refused by 1, 2 */
+kofudile_plan kofudile_prefix_probe_plan(const uint64_t *words, size_t words_len);
+kofudile_hashes kofudile_prefix_probe_hashes(const uint64_t *words, size_t words_len);
+/* When the running prefix race began. refused by 1, 2 */
+kofudile_perhaps kofudile_active_prefix_probe_started_at(const uint64_t *words, size_t words_len);
+/* Whether the seat races for this hash in the prefix race; as alternate in the race for a cold front. refused by 1, 2, 6 */
+kofudile_number kofudile_probe_offered(const uint64_t *words, size_t words_len, uint64_t seat, kofudile_hash hash);
+kofudile_number kofudile_hedge_offered(const uint64_t *words, size_t words_len, uint64_t seat, kofudile_hash hash);
+
+/* ---- For the host's convenience ---- */
+
+static inline uint64_t kofudile_word_of(const uint8_t *bytes) {
+    uint64_t word = 0;
+    for (int i = 0; i < 8; i++) word = word << 8 | bytes[i];
+    return word;
+}
+
+/* 32 bytes as a hash. */
+static inline kofudile_hash kofudile_hash_of(const uint8_t *bytes) {
+    kofudile_hash hash;
+    hash.a = kofudile_word_of(bytes);
+    hash.b = kofudile_word_of(bytes + 8);
+    hash.c = kofudile_word_of(bytes + 16);
+    hash.d = kofudile_word_of(bytes + 24);
+    return hash;
+}
+
+#ifdef __cplusplus
+}
+static_assert(sizeof(kofudile_entry) == 64 && sizeof(kofudile_release) == 72 && sizeof(kofudile_settings) == 96, "structs without gaps");
+#else
+_Static_assert(sizeof(kofudile_entry) == 64 && sizeof(kofudile_release) == 72 && sizeof(kofudile_settings) == 96, "structs without gaps");
+#endif
+
+#endif
