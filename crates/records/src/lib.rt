@@ -1,13 +1,14 @@
 // The records in the 4,096 lent words: eight columns of 256 places. A contract speaks of `decode`, which every list of words has: nothing is
 // asked but lengths and indices. `count` is how many places are live.
 ghost use mathlib.Core.Path.{_≡_};
-ghost use mathlib.Core.Bool.{_&&_, cond};
+ghost use mathlib.Core.Bool.{_&&_, true, cond};
 ghost use Prim.Native.Nat.{_<_, _≤_, suc};
 ghost use lib.ListN.{length, take, drop, getD};
 ghost use lib.Dec.{eqb};
 ghost use Rattle.model.specs.Hash.{hash, same, less};
 ghost use Rattle.model.specs.Records.{lowest, at-height, pending-count-for};
-ghost use Rattle.model.specs.Seats.{sooner, oldest};
+ghost use Rattle.model.specs.Numbers.{lesser};
+ghost use Rattle.model.specs.Seats.{oldest};
 ghost use Rattle.model.specs.Pace.{was-front};
 ghost use Rattle.model.specs.Layout.{decode, entry-at, field, blank};
 ghost use Rattle.laws.specs.Tables.{removed, put-in, kept-rows};
@@ -177,41 +178,56 @@ pub fn pending_count_for(words: &[u64], count: usize, owner: u64) -> u64
     n
 }
 
-fn sooner_of(t: u64, r: Oldest) -> Oldest
-    ensures { λ s. ⌜ stored s ≡ sooner (suc t) (stored r) ⌝ }
+fn lower_time(t: u64, low: u64) -> u64
+    ensures { λ r. ⌜ r ≡ lesser t low ⌝ }
 {
-    match r {
-        Oldest::Never => Oldest::Since(t),
-        Oldest::Since(u) => {
-            if t <= u {
-                Oldest::Since(t)
-            } else {
-                Oldest::Since(u)
-            }
-        }
+    if t <= low {
+        return t;
+    }
+    low
+}
+
+// The least time of the owner so far, after a record of the seat o and the time t. By choices and no branch, since owners come in any order.
+fn low_after(o: u64, owner: u64, t: u64, low: u64) -> u64
+    ensures { λ r. ⌜ r ≡ cond (eqb o owner) (lesser t low) low ⌝ }
+{
+    let m = lower_time(t, low);
+    if o == owner { m } else { low }
+}
+
+fn any_after(o: u64, owner: u64, any: bool) -> bool
+    ensures { λ r. ⌜ r ≡ cond (eqb o owner) true any ⌝ }
+{
+    if o == owner { true } else { any }
+}
+
+fn oldest_by(any: bool, low: u64) -> Oldest
+    ensures { λ r. ⌜ stored r ≡ cond any (suc low) 0 ⌝ }
+{
+    if any {
+        Oldest::Since(low)
+    } else {
+        Oldest::Never
     }
 }
 
-fn sooner_if(o: u64, owner: u64, t: u64, r: Oldest) -> Oldest
-    ensures { λ s. ⌜ stored s ≡ cond (eqb o owner) (sooner (suc t) (stored r)) (stored r) ⌝ }
-{
-    if o == owner { sooner_of(t, r) } else { r }
-}
-
-// `oldest`
+// `oldest`. The loop holds plain numbers, and the answer is made after it: an enum in the loop would go through memory at every turn. A time may
+// be any number, so whether there is one is a flag of its own.
 pub fn oldest_of(words: &[u64], count: usize, owner: u64) -> Oldest
     requires { ⌜ (length (now words) ≡ 4096) × (count ≤ 256) ⌝ }
     ensures { λ r. ⌜ stored r ≡ oldest owner (take count (decode (now (words .entry)) .entries)) ⌝ }
 {
-    let mut found = Oldest::Never;
+    let mut any = false;
+    let mut low = 0xFFFF_FFFF_FFFF_FFFF;
     let mut i = count;
     while 0 < i {
         i -= 1;
         let o = words[i + 1024];
         let t = words[i + 1280];
-        found = sooner_if(o, owner, t, found);
+        low = low_after(o, owner, t, low);
+        any = any_after(o, owner, any);
     }
-    found
+    oldest_by(any, low)
 }
 
 // The place of the lowest record, the first among equals; `count` where there is none.

@@ -1,0 +1,95 @@
+-- `demo::host::ask` meets its contract: a part of an array is as long as it says. Assumes nothing.
+use mathlib.Core.Path.{sym}
+use lib.Seq.{length-take-le}
+use borrow.Author.Needs.{needs}
+use Rattle.demo.proofs.host.ask.Statement.{statement}
+use Rattle.demo.proofs.host.ask.Tie as tie
+
+estimate-requires : tie.Need-estimate-requires
+estimate-requires c κs = search needs
+
+hashes-from-requires : tie.Need-hashes-from-requires
+hashes-from-requires c κs = search needs
+
+heights-from-requires : tie.Need-heights-from-requires
+heights-from-requires c κs = search needs
+
+at-most-eight-requires : tie.Need-at-most-eight-requires
+at-most-eight-requires c κs = search needs
+
+height-after-requires : tie.Need-height-after-requires
+height-after-requires c κs = search needs
+
+clock-of-requires : tie.Need-clock-of-requires
+clock-of-requires c κs = search needs
+
+mul-hashes : tie.Need-mul-hashes
+mul-hashes c = search needs
+
+array-share-prefix-hashes : tie.Need-array-share-prefix-hashes
+array-share-prefix-hashes c = search needs
+
+slice-aggregate-mark-requested : tie.Need-slice-aggregate-mark-requested
+slice-aggregate-mark-requested c = sym (length-take-le _ _ (array-share-prefix-hashes (c .before)))
+
+array-share-prefix-heights : tie.Need-array-share-prefix-heights
+array-share-prefix-heights c = search needs
+
+slice-aggregate-mark-requested-2 : tie.Need-slice-aggregate-mark-requested-2
+slice-aggregate-mark-requested-2 c = sym (length-take-le _ _ (array-share-prefix-heights (c .before)))
+
+mark-requested-requires : tie.Need-mark-requested-requires
+mark-requested-requires c κs = search needs
+
+slice-aggregate-begin : tie.Need-slice-aggregate-begin
+slice-aggregate-begin c = search needs
+
+begin-requires : tie.Need-begin-requires
+begin-requires c κs = search needs
+
+blocks-requires : tie.Need-blocks-requires
+blocks-requires c κs = search needs
+
+requested-requires : tie.Need-requested-requires
+requested-requires c κs = search needs
+
+finish-requires : tie.Need-finish-requires
+finish-requires c κs = search needs
+
+opened-by-requires : tie.Need-opened-by-requires
+opened-by-requires c κs = search needs
+
+opened-requires : tie.Need-opened-requires
+opened-requires c κs = search needs
+
+same-length : tie.Need-same-length
+same-length c = search needs
+
+returns : tie.Need-returns
+returns c = search needs
+
+pub ask-spec : {M : Type 1} → statement M
+ask-spec =
+    tie.close
+    (tie.spec
+    estimate-requires
+    hashes-from-requires
+    heights-from-requires
+    at-most-eight-requires
+    height-after-requires
+    clock-of-requires
+    mul-hashes
+    array-share-prefix-hashes
+    slice-aggregate-mark-requested
+    array-share-prefix-heights
+    slice-aggregate-mark-requested-2
+    mark-requested-requires
+    slice-aggregate-begin
+    begin-requires
+    blocks-requires
+    requested-requires
+    finish-requires
+    opened-by-requires
+    opened-requires
+    same-length
+    returns)
