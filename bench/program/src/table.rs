@@ -162,7 +162,7 @@ impl Results {
         let mut svg = format!(
             "<svg xmlns=\"http://www.w3.org/2000/svg\" width=\"{width}\" height=\"{height}\" viewBox=\"0 0 {width} {height}\" \
              font-family=\"sans-serif\" font-size=\"12\">\n<rect width=\"100%\" height=\"100%\" fill=\"#ffffff\"/>\n\
-             <text x=\"16\" y=\"24\" font-size=\"15\" font-weight=\"bold\">Medians at 256 pending, µs; each row to its own scale; red: the target</text>\n"
+             <text x=\"16\" y=\"24\" font-size=\"15\" font-weight=\"bold\">Medians at 256 pending, µs; each row to its own scale; red: the target, beside own maps</text>\n"
         );
         let legend = [
             ("#1b7f5c", "ours, with refusals and the whole check"),
