@@ -1,5 +1,5 @@
 // The records in the 4,096 lent words: eight columns of 256 places. A contract speaks of `decode`, which every list of words has: nothing is
-// asked but lengths and indices. `count` is how many places are live.
+// asked but lengths and indices, and of one in or out that no record stands after the live ones. `count` is how many places are live.
 ghost use mathlib.Core.Path.{_≡_};
 ghost use mathlib.Core.Bool.{_&&_, true, cond};
 ghost use mathlib.Core.List.{[], _∷_, _++_};
