@@ -1,11 +1,13 @@
 // The records in the 4,096 lent words: eight columns of 256 places. A contract speaks of `decode`, which every list of words has: nothing is
-// asked but lengths and indices. `count` is how many places are live.
+// asked but lengths and indices, and of one in or out that no record stands after the live ones. `count` is how many places are live.
 ghost use mathlib.Core.Path.{_≡_};
 ghost use mathlib.Core.Bool.{_&&_, true, cond};
-ghost use Prim.Native.Nat.{_<_, _≤_, suc};
-ghost use lib.ListN.{length, take, drop, getD};
+ghost use mathlib.Core.List.{[], _∷_, _++_};
+ghost use Prim.Native.Nat.{_-_, _<_, _≤_, suc};
+ghost use lib.ListN.{length, take, drop, getD, replicate};
 ghost use lib.Dec.{eqb};
 ghost use Rattle.model.specs.Hash.{hash, same, less};
+ghost use Rattle.model.specs.Lists.{removeAt, inserted};
 ghost use Rattle.model.specs.Records.{lowest, at-height, pending-count-for};
 ghost use Rattle.model.specs.Numbers.{lesser};
 ghost use Rattle.model.specs.Seats.{oldest};
@@ -61,18 +63,25 @@ pub fn entry_of(words: &[u64], i: usize) -> Entry
     }
 }
 
-// ---- changes, column by column
+// ---- changes, column by column. One in or out moves no word from `live` on, which is how many records there are: those places hold 0.
+
+fn remove_live(col: &mut [u64], live: usize, at: usize)
+    requires { ⌜ (length (now col) ≡ 256) × (live ≤ 256) × (at < live) × (drop live (now col) ≡ replicate (256 - live) 0) ⌝ }
+    ensures { λ _. ⌜ now (col .exit) ≡ removeAt at (now (col .entry)) ++ (0 ∷ []) ⌝ }
+{
+    column::remove_at(&mut col[0..live], at);
+}
 
 // `removed`: the record at `at` taken out.
-pub fn remove(words: &mut [u64], at: usize)
-    requires { ⌜ (length (now words) ≡ 4096) × (at < 256) ⌝ }
+pub fn remove(words: &mut [u64], live: usize, at: usize)
+    requires { ⌜ (length (now words) ≡ 4096) × (live ≤ 256) × (at < live) × (drop live (decode (now words) .entries) ≡ replicate (256 - live) blank) ⌝ }
     ensures { λ _. ⌜ decode (now (words .exit)) ≡ removed at (decode (now (words .entry))) ⌝ }
 {
     let mut k = 0;
     while k < COLUMNS {
         let a = 256 * k;
         let e = a + 256;
-        column::remove_at(&mut words[a..e], at);
+        remove_live(&mut words[a..e], live, at);
         k += 1;
     }
 }
@@ -87,9 +96,17 @@ fn field_of(e: Entry, k: usize) -> u64
     l[k]
 }
 
+fn insert_live(col: &mut [u64], live: usize, at: usize, value: u64)
+    requires { ⌜ (length (now col) ≡ 256) × (live < 256) × (at ≤ live) × (drop live (now col) ≡ replicate (256 - live) 0) ⌝ }
+    ensures { λ _. ⌜ now (col .exit) ≡ inserted at value (now (col .entry)) ⌝ }
+{
+    let e = live + 1;
+    column::insert_at(&mut col[0..e], at, value);
+}
+
 // `put-in`: an entry put in at `at`.
-pub fn insert(words: &mut [u64], at: usize, e: Entry)
-    requires { ⌜ (length (now words) ≡ 4096) × (at ≤ 256) ⌝ }
+pub fn insert(words: &mut [u64], live: usize, at: usize, e: Entry)
+    requires { ⌜ (length (now words) ≡ 4096) × (live < 256) × (at ≤ live) × (drop live (decode (now words) .entries) ≡ replicate (256 - live) blank) ⌝ }
     ensures { λ _. ⌜ decode (now (words .exit)) ≡ put-in at e (decode (now (words .entry))) ⌝ }
 {
     let mut k = 0;
@@ -97,7 +114,7 @@ pub fn insert(words: &mut [u64], at: usize, e: Entry)
         let a = 256 * k;
         let z = a + 256;
         let v = field_of(e, k);
-        column::insert_at(&mut words[a..z], at, v);
+        insert_live(&mut words[a..z], live, at, v);
         k += 1;
     }
 }

@@ -5,11 +5,11 @@ use mathlib.Core.List.{List, [], _∷_}
 use Prim.Native.Nat.{ℕ, zero, suc, _+_, _-_, _≤_, _<_, suc-le-suc, zero-le}
 use native.Mathlib.Nat.{not-suc-le-zero, le-of-suc-le-suc}
 use native.Mathlib.Omega.{arith}
-use lib.ListN.{length, getD, set, take}
-use lib.Seq.{getD-take}
+use lib.ListN.{length, getD, set, take, drop, replicate}
+use lib.Seq.{getD-take, drop-at}
 use lib.Dec.{eqb}
 use borrow.Author.Tests.{eqb-true}
-use Rattle.model.specs.Lists.{removeAt, insertAt, keepBy}
+use Rattle.model.specs.Lists.{removeAt, insertAt, keepBy, pad}
 use Rattle.model.specs.Hash.{key, same}
 use Rattle.model.specs.Records.{remove}
 use Rattle.model.specs.Seats.{oldest, reset-owner-queue-start, start-reset, body-reset, start-noted, keep-seats}
@@ -39,6 +39,13 @@ module _ (ws : List ℕ) (h : Whole ws) where
   pub live-is : (n : ℕ) → n ≡ length (window-of ws .queue .pending) → take n (decode ws .entries) ≡ window-of ws .queue .pending
   unfolding window-of read live
   live-is n e = ap (λ (m : ℕ). take m (decode ws .entries)) (e ∙ sym count-is)
+
+  -- after them the rows are blank
+  pub blank-after : (n : ℕ) → n ≡ length (window-of ws .queue .pending) → drop n (decode ws .entries) ≡ replicate (256 - n) blank
+  unfolding table pad
+  blank-after n e =
+      let l = window-of ws .queue .pending in
+      ap (λ (t : Table). drop n (t .entries)) (sym (h .kept)) ∙ drop-at l (replicate (256 - length l) blank) n (sym e) ∙ ap (λ (m : ℕ). replicate (256 - m) blank) (sym e)
 
   pub entry-is : (i : ℕ) → i < length (window-of ws .queue .pending) → getD (decode ws .entries) i blank ≡ getD (window-of ws .queue .pending) i blank
   entry-is i b =

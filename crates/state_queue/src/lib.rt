@@ -97,7 +97,7 @@ pub fn take_out(words: &mut [u64], at: usize)
     let left = total - e.estimate;
     let n = layout::word_of(words, 1);
     let count = n - 1;
-    records::remove(words, at);
+    records::remove(words, n as usize, at);
     layout::set_word(words, 1, count);
     layout::set_word(words, 3, left);
 }
@@ -111,7 +111,7 @@ pub fn put_at(words: &mut [u64], at: usize, e: Entry)
     let more = total + e.estimate;
     let n = layout::word_of(words, 1);
     let count = n + 1;
-    records::insert(words, at, e);
+    records::insert(words, n as usize, at, e);
     layout::set_word(words, 1, count);
     layout::set_word(words, 3, more);
 }

@@ -7,14 +7,15 @@ use mathlib.Core.Path.{_≡_, ap, _∙_, subst}
 use Prim.Native.Nat.{ℕ, _-_, _≤_}
 use native.Mathlib.Omega.{arith}
 use borrow.Author.Needs.{needs}
+use Rattle.records.proofs.Live.{mid-long, mid-blank}
 use Rattle.records.proofs.insert.Statement.{statement}
 use Rattle.records.proofs.insert.Tie as tie
 
 abbrev Inv-loop : tie.InvT-loop
-Inv-loop words₀ at e k₀ words k = (k ≤ 8) × Upto (put-col at e) k words₀ words
+Inv-loop words₀ live at e k₀ words k = (k ≤ 8) × Upto (put-col at e) k words₀ words
 
 abbrev μ-loop : tie.MeasureT-loop
-μ-loop words₀ at e k₀ words k = 8 - k
+μ-loop words₀ live at e k₀ words k = 8 - k
 
 loop-holds : tie.Need-loop-holds Inv-loop μ-loop
 loop-holds c = (omega arith, upto-start (put-col (c .before .args .at) (c .before .args .e)) (c .before .args .words .now))
@@ -28,20 +29,29 @@ add-z c = omega arith
 field-of-requires : tie.Need-field-of-requires Inv-loop μ-loop
 field-of-requires c κs = search needs
 
-mul-insert-at : tie.Need-mul-insert-at Inv-loop μ-loop
-mul-insert-at c = omega arith
+mul-insert-live : tie.Need-mul-insert-live Inv-loop μ-loop
+mul-insert-live c = omega arith
 
-sub-insert-at : tie.Need-sub-insert-at Inv-loop μ-loop
-sub-insert-at c = omega arith
+sub-insert-live : tie.Need-sub-insert-live Inv-loop μ-loop
+sub-insert-live c = omega arith
 
-part-insert-at-start : tie.Need-part-insert-at-start Inv-loop μ-loop
-part-insert-at-start c = omega arith
+part-insert-live-start : tie.Need-part-insert-live-start Inv-loop μ-loop
+part-insert-live-start c = omega arith
 
-part-insert-at-end : tie.Need-part-insert-at-end Inv-loop μ-loop
-part-insert-at-end c = omega arith
+part-insert-live-end : tie.Need-part-insert-live-end Inv-loop μ-loop
+part-insert-live-end c = omega arith
 
-insert-at-requires : tie.Need-insert-at-requires Inv-loop μ-loop
-insert-at-requires c κs = search needs
+insert-live-requires : tie.Need-insert-live-requires Inv-loop μ-loop
+insert-live-requires c κs =
+    let at-loop = c .before .before .before in
+    let at-start = at-loop .before .before in
+    let l = at-loop .loop in
+    let ws = at-start .args .words .now in (
+      mid-long (l .k) ws (l .words) (omega arith) (at-start .pre .0) (l .inv .1 .long),
+      at-start .pre .1,
+      at-start .pre .2,
+      mid-blank (l .k) (at-start .args .live) ws (l .words) (omega arith) (at-start .pre .0) (l .inv .1 .todo (l .k) (omega arith)) (at-start .pre .3),
+    )
 
 add-k : tie.Need-add-k Inv-loop μ-loop
 add-k c = omega arith
@@ -57,9 +67,9 @@ loop-again c =
     let at-start = at-loop .before .before in
     let at = at-start .args .at in (
       omega arith,
-      upto-call (put-col at (at-start .args .e)) (at-loop .loop .k) (at-start .args .words .now) (at-loop .loop .words) (at-call .insert-at .last .0)
-          (omega arith) (at-start .pre .0) (at-call .insert-at .kept .0)
-          (at-call .insert-at .ensures ∙ ap (λ (v : ℕ). inserted at v (mid (at-loop .loop .k) (at-loop .loop .words))) (at-field .field-of .ensures)) (at-loop .loop .inv .1),
+      upto-call (put-col at (at-start .args .e)) (at-loop .loop .k) (at-start .args .words .now) (at-loop .loop .words) (at-call .insert-live .last .0)
+          (omega arith) (at-start .pre .0) (at-call .insert-live .kept .0)
+          (at-call .insert-live .ensures ∙ ap (λ (v : ℕ). inserted at v (mid (at-loop .loop .k) (at-loop .loop .words))) (at-field .field-of .ensures)) (at-loop .loop .inv .1),
     )
 
 same-length : tie.Need-same-length Inv-loop μ-loop
@@ -85,11 +95,11 @@ insert-spec =
     mul-a
     add-z
     field-of-requires
-    mul-insert-at
-    sub-insert-at
-    part-insert-at-start
-    part-insert-at-end
-    insert-at-requires
+    mul-insert-live
+    sub-insert-live
+    part-insert-live-start
+    part-insert-live-end
+    insert-live-requires
     add-k
     loop-less
     loop-again

@@ -6,7 +6,7 @@ use Rattle.records.proofs.lower_time.Statement.{statement}
 use Rattle.records.proofs.lower_time.Tie as tie
 
 returns : tie.Need-returns
-returns c = sym (lesser-first _ _ (c .if1 .taken))
+returns c = sym (lesser-first _ _ (omega (arith, c .if1 .taken)))
 
 returns-2 : tie.Need-returns-2
 returns-2 c = sym (lesser-second _ _ (omega arith))

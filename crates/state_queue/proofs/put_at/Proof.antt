@@ -1,7 +1,9 @@
 -- `state_queue::put_at` meets its contract. Assumes nothing.
-use mathlib.Core.Path.{_∙_}
+use mathlib.Core.Path.{_≡_, _∙_}
 use native.Mathlib.Omega.{arith}
-use Rattle.state_queue.specs.Steps.{count-is, total-is, few, given}
+use lib.ListN.{length}
+use Rattle.model.specs.Layout.{window-of}
+use Rattle.state_queue.specs.Steps.{count-is, total-is, few, blank-after, given}
 use borrow.Author.Needs.{needs}
 use Rattle.state_queue.proofs.put_at.Statement.{statement}
 use Rattle.state_queue.proofs.put_at.Tie as tie
@@ -28,7 +30,13 @@ insert-requires : tie.Need-insert-requires
 insert-requires c κs =
     let ws = c .before .before .before .before .before .before .before .args .words .now in
     let whole = c .before .before .before .before .before .before .before .pre .0 in
-    (whole .long, omega (arith, few ws whole, c .before .before .before .before .before .before .before .pre .1 .0))
+    let at-count = c .before in
+    let n : at-count .word-of2 .result ≡ length (window-of ws .queue .pending) = at-count .word-of2 .ensures ∙ count-is ws whole in (
+      whole .long,
+      omega (arith, n, c .before .before .before .before .before .before .before .pre .1 .1 .0),
+      omega (arith, n, c .before .before .before .before .before .before .before .pre .1 .0),
+      blank-after ws whole (at-count .word-of2 .result) n,
+    )
 
 set-word-requires : tie.Need-set-word-requires
 set-word-requires c κs = search needs

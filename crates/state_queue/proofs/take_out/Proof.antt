@@ -1,8 +1,10 @@
 -- `state_queue::take_out` meets its contract. Assumes nothing.
-use mathlib.Core.Path.{ap, _∙_}
+use mathlib.Core.Path.{_≡_, ap, _∙_}
 use native.Mathlib.Omega.{arith}
+use lib.ListN.{length}
+use Rattle.model.specs.Layout.{window-of}
 use Rattle.model.specs.declared.Entry.{Entry}
-use Rattle.state_queue.specs.Steps.{count-is, total-is, few, taken}
+use Rattle.state_queue.specs.Steps.{count-is, total-is, few, blank-after, taken}
 use borrow.Author.Needs.{needs}
 use Rattle.state_queue.proofs.take_out.Statement.{statement}
 use Rattle.state_queue.proofs.take_out.Tie as tie
@@ -32,7 +34,13 @@ remove-requires : tie.Need-remove-requires
 remove-requires c κs =
     let ws = c .before .before .before .before .before .before .before .before .before .args .words .now in
     let whole = c .before .before .before .before .before .before .before .before .before .pre .0 in
-    (whole .long, omega (arith, few ws whole, c .before .before .before .before .before .before .before .before .before .pre .1 .0))
+    let at-count = c .before in
+    let n : at-count .word-of2 .result ≡ length (window-of ws .queue .pending) = at-count .word-of2 .ensures ∙ count-is ws whole in (
+      whole .long,
+      omega (arith, n, few ws whole),
+      omega (arith, n, c .before .before .before .before .before .before .before .before .before .pre .1 .0),
+      blank-after ws whole (at-count .word-of2 .result) n,
+    )
 
 set-word-requires : tie.Need-set-word-requires
 set-word-requires c κs = search needs
