@@ -18,7 +18,7 @@
  *
  * TERMS
  *   seat     0 to 255: the host's number for a connection. Key: 0 to 255, one for each seat, for the address behind it; cooling goes by key.
- *   clock    nanoseconds from any start that the host chooses, at most 2^62, never going back between accepted calls. Durations are nanoseconds.
+ *   clock    nanoseconds from any start that the host chooses, at most 2^62, never going back between accepted calls (a query's moves nothing). Durations are nanoseconds.
  *   hash     32 bytes as four words, the first byte highest: kofudile_hash_of.
  *   entry    a block asked for: hash, owner seat, time of the request, height, estimate of its bytes.
  *   frontier the height from which the host looks for blocks to request next (kofudile_request_cursor).
@@ -27,7 +27,8 @@
  *   A value that may be missing is `has_x` and then `x`; where `has_x` is false, `x` is not read.
  *
  * ANSWERS
- *   An answer begins with `refused`: 0, or one of the nine numbers below, and then every other field is 0. A call that answers a plain uint64_t
+ *   An answer begins with `refused`: 0, or one of the nine numbers below, and then every other field is 0. (kofudile_hashes alone has no such
+ *   field: it is 0 throughout where kofudile_prefix_probe_plan is refused.) A call that answers a plain uint64_t
  *   answers that number. A refused call changes nothing: words and report are as they were. Of several causes the lowest number is answered.
  *   The comment `refused by ..` of a call lists all that it can answer.
  */
@@ -54,7 +55,7 @@ enum {
     KOFUDILE_NO_WINDOW = 2,    /* the words are not a window: never opened, or damaged since */
     KOFUDILE_SHORT_REPORT = 3, /* report_len is under 256 */
     /* The host, by clock and settings. */
-    KOFUDILE_CLOCK = 4,    /* the clock is above 2^62, or before that of the last accepted call that took one */
+    KOFUDILE_CLOCK = 4,    /* the clock is above 2^62, or before that of the last accepted call that took one (queries do not count) */
     KOFUDILE_SETTINGS = 5, /* opening: a duration above 10^15, max_pending_bytes above 2^40, max_pending_blocks above 256, another count above 65,535 */
     /* Whoever names a peer. */
     KOFUDILE_PEER = 6, /* a seat or key above 255, not 256 keys or flags, more than 256 alternates */
@@ -155,7 +156,8 @@ typedef struct {
     kofudile_hash hash;
 } kofudile_blocked;
 
-/* present 1: ask others too for `count` blocks of `owner`, the last at end_height. */
+/* present 1: ask others too for `count` blocks of `owner`, the last at end_height (one less where
+   the walk reached 4,294,967,295, as in the original). */
 typedef struct {
     uint64_t refused, present, owner, count, end_height;
 } kofudile_plan;
@@ -254,7 +256,10 @@ uint64_t kofudile_confirm_cold_front_hedge(uint64_t *words, size_t words_len, ui
 kofudile_blocked kofudile_observe_blocked(uint64_t *words, size_t words_len, bool has_next, uint32_t next,
     bool has_frontier, kofudile_hash frontier, bool busy, uint64_t staged, bool has_highest, uint32_t highest, uint64_t clock);
 
-/* So many peers may be asked: with enough of them fan-out engages, and a prefix race ends. refused by 1, 2, 4 */
+/*
+ * So many peers may be asked. With min_peers_for_fanout of them fan-out engages, unless a prefix race is younger than stall_timeout_initial; with two
+ * fewer it ends. While it is engaged no prefix race runs. refused by 1, 2, 4
+ */
 uint64_t kofudile_set_fanout_eligible_peers(uint64_t *words, size_t words_len, uint64_t eligible, uint64_t clock);
 
 /* Forgets the winner of the last race. refused by 1, 2 */

@@ -366,7 +366,8 @@ impl DownloadWindow {
         })
     }
 
-    /// So many peers may be asked: with enough of them fan-out engages, and a prefix race ends.
+    /// So many peers may be asked. With `min_peers_for_fanout` of them fan-out engages, unless a prefix race is younger than
+    /// `stall_timeout_initial`; with two fewer it ends. While it is engaged no prefix race runs.
     ///
     /// Refused by `Clock`.
     pub fn set_fanout_eligible_peers(&mut self, count: usize, now: Instant) -> Result<(), Refusal> {

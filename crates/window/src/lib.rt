@@ -21,6 +21,7 @@ use model::Sought;
 use model::Source;
 use report::write_report;
 
+// Forgets the winner of the last race.
 pub fn clear_preferred_peer(words: &mut [u64]) -> Accepted
     ensures { λ r. ⌜
         (accepted-says r ≡ perform (changes clears-preferred) (now (words .entry)) [] .answer)
@@ -35,6 +36,7 @@ pub fn clear_preferred_peer(words: &mut [u64]) -> Accepted
     Accepted::Done
 }
 
+// So many peers may be asked: fan-out engages or ends.
 pub fn set_fanout_eligible_peers(words: &mut [u64], n: u64, clock: u64) -> Accepted
     ensures { λ r. ⌜
         (accepted-says r ≡ perform (changes (sets-fanout clock n)) (now (words .entry)) [] .answer)
@@ -50,6 +52,7 @@ pub fn set_fanout_eligible_peers(words: &mut [u64], n: u64, clock: u64) -> Accep
     Accepted::Done
 }
 
+// A body that came again: an observation of this peer and this hash ends.
 pub fn credit_duplicate_delivery(words: &mut [u64], h: Hash, source: u64) -> Accepted
     ensures { λ r. ⌜
         (accepted-says r ≡ perform (changes (credits-duplicate h source)) (now (words .entry)) [] .answer)
@@ -64,6 +67,7 @@ pub fn credit_duplicate_delivery(words: &mut [u64], h: Hash, source: u64) -> Acc
     Accepted::Done
 }
 
+// The key of a seat cools from now on.
 pub fn mark_peer_unresponsive(words: &mut [u64], source: u64, clock: u64) -> Accepted
     ensures { λ r. ⌜
         (accepted-says r ≡ perform (changes (marks-unresponsive clock source)) (now (words .entry)) [] .answer)
@@ -79,6 +83,7 @@ pub fn mark_peer_unresponsive(words: &mut [u64], source: u64, clock: u64) -> Acc
     Accepted::Done
 }
 
+// One block is asked of a seat outside the plan, where there is room for it.
 pub fn mark_owned_fetch(
     words: &mut [u64],
     owner: u64,
@@ -114,6 +119,7 @@ pub fn mark_owned_fetch(
 
 // ---- the opening and the request
 
+// A new window, with nothing pending: nothing of the words is read but their number.
 pub fn open(words: &mut [u64], settings: Settings, keys: &[u64], clock: u64) -> Accepted
     ensures { λ r. ⌜
         (accepted-says r ≡ perform (opens clock settings (now (keys .entry))) (now (words .entry)) [] .answer)
@@ -128,6 +134,7 @@ pub fn open(words: &mut [u64], settings: Settings, keys: &[u64], clock: u64) -> 
     Accepted::Done
 }
 
+// Blocks were asked of a seat: each goes in, and the answer says whether there is room for more.
 pub fn mark_requested(
     words: &mut [u64],
     owner: u64,
@@ -165,6 +172,10 @@ pub fn mark_requested(
 
 // ---- calls that let go, with the lent report. All branching is in `letting_go`; on a refusal the writer writes nothing. tools/lets writes their proofs.
 
+// The entry of a hash goes, since its block is no longer wanted.
+//
+// This and the seven calls below are lent a report. All branching is in `letting_go`; the writer runs always, and on a refusal it writes
+// nothing. Its count is the answer's own, so that it is not used again.
 pub fn release_pending(words: &mut [u64], report: &mut [Release], h: Hash, clock: u64) -> LetGo
     ensures { λ r. ⌜
         (let-go-says r ≡ perform (changes (releases clock h)) (now (words .entry)) (now (report .entry)) .answer)
@@ -179,6 +190,7 @@ pub fn release_pending(words: &mut [u64], report: &mut [Release], h: Hash, clock
     r
 }
 
+// The entry of a hash goes, to be asked for again from its height on, or from the one that is named.
 pub fn requeue_for_retry(
     words: &mut [u64],
     report: &mut [Release],
@@ -199,6 +211,7 @@ pub fn requeue_for_retry(
     r
 }
 
+// A body was refused: its entry goes if the peer that sent it owns it.
 pub fn reject_delivery(
     words: &mut [u64],
     report: &mut [Release],
@@ -219,6 +232,7 @@ pub fn reject_delivery(
     r
 }
 
+// The sweep: the entries of owners whose time is out go, and those that their owner passed over.
 pub fn expire_pending(words: &mut [u64], report: &mut [Release], clock: u64) -> LetGo
     ensures { λ r. ⌜
         (let-go-says r ≡ perform (changes (expires clock)) (now (words .entry)) (now (report .entry)) .answer)
@@ -233,6 +247,7 @@ pub fn expire_pending(words: &mut [u64], report: &mut [Release], clock: u64) -> 
     r
 }
 
+// The entries below a height go, since the chain has passed it.
 pub fn retire_before(words: &mut [u64], report: &mut [Release], height: u32, clock: u64) -> LetGo
     ensures { λ r. ⌜
         (let-go-says r ≡ perform (changes (retires clock height)) (now (words .entry)) (now (report .entry)) .answer)
@@ -247,6 +262,7 @@ pub fn retire_before(words: &mut [u64], report: &mut [Release], height: u32, clo
     r
 }
 
+// The seats without a flag are lost, with all that they were asked for. It takes no clock.
 pub fn retain_owned_by(words: &mut [u64], report: &mut [Release], flags: &[u64]) -> LetGo
     ensures { λ r. ⌜
         (let-go-says r ≡ perform (changes (retains (now (flags .entry)))) (now (words .entry)) (now (report .entry)) .answer)
@@ -261,6 +277,7 @@ pub fn retain_owned_by(words: &mut [u64], report: &mut [Release], flags: &[u64])
     r
 }
 
+// A body is put to a peer's credit, whether or not it was pending: races and pace are told of it.
 pub fn credit_delivery_from(
     words: &mut [u64],
     report: &mut [Release],
@@ -290,6 +307,7 @@ pub fn credit_delivery_from(
     r
 }
 
+// A body came: its entry goes, its sender is credited, the mean moves.
 pub fn mark_received_from(
     words: &mut [u64],
     report: &mut [Release],
@@ -313,6 +331,7 @@ pub fn mark_received_from(
 
 // ---- the hedge, the look and the probe
 
+// The host has asked a second peer for the front.
 pub fn confirm_cold_front_hedge(words: &mut [u64], owner: u64, alternate: u64, h: Hash) -> Accepted
     ensures { λ r. ⌜
         (accepted-says r ≡ perform (changes (confirms-hedge owner alternate h)) (now (words .entry)) [] .answer)
@@ -327,6 +346,7 @@ pub fn confirm_cold_front_hedge(words: &mut [u64], owner: u64, alternate: u64, h
     Accepted::Done
 }
 
+// The look at a blocked window: whom to blame, what to evict, or whether to hedge.
 pub fn observe_blocked(
     words: &mut [u64],
     next: Height32,
@@ -352,6 +372,7 @@ pub fn observe_blocked(
     r
 }
 
+// The host has asked others for the planned hashes: the race begins, if they are the plan's.
 pub fn confirm_prefix_probe(
     words: &mut [u64],
     owner: u64,

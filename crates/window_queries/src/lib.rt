@@ -170,7 +170,7 @@ pub fn effective_owner_timeout(words: &[u64]) -> Number
     Number::Is(x)
 }
 
-// Whether a hedge of this hash may be offered to a seat.
+// Whether a seat races for this hash as the alternate of a cold front.
 pub fn hedge_offered(words: &[u64], seat: u64, h: Hash) -> Truth
     ensures { λ r. ⌜ truth-says r ≡ perform (queries (asks-hedge-offered seat h)) (now (words .entry)) [] .answer ⌝ }
 {
@@ -415,7 +415,7 @@ pub fn compute_request_capacity(
     perhaps_batch(b)
 }
 
-// Whether this hash is offered to a seat by the probe.
+// Whether a seat races for this hash in the prefix probe.
 pub fn probe_offered(words: &[u64], source: u64, h: Hash) -> Truth
     ensures { λ r. ⌜ truth-says r ≡ perform (queries (asks-probe-offered source h)) (now (words .entry)) [] .answer ⌝ }
 {
@@ -441,7 +441,7 @@ pub fn prefix_probe_plan(words: &[u64]) -> Plan
     probe_plan::prefix_probe_plan(words)
 }
 
-// The planned hashes in the first rows, and 0 in the others; where the other refuses or has no plan, in all. `plan-whole` says that the two
+// The planned hashes in the first rows, and 0 in the others; where `prefix_probe_plan` refuses or has no plan, in all. `plan-whole` says that the two
 // together are the answer.
 pub fn prefix_probe_hashes(words: &[u64]) -> [[u64; 4]; 8]
     ensures { λ r. ⌜ rows-words 8 r ≡ pad 32 0 (hash-part (perform (queries (reads probe-plan)) (now (words .entry)) [] .answer)) ⌝ }
