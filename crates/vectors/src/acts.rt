@@ -267,14 +267,9 @@ fn is_reporting(kind: u64) -> bool {
     (kind == 4) | (kind == 5) | ((kind >= 7) & (kind <= 12))
 }
 
-pub fn perform(
-    words: &mut [u64],
-    numbers: &[u64],
-    kind: u64,
-    at: u64,
-    gone_at: u64,
-    n: u64,
-) -> Said {
+pub fn perform(words: &mut [u64], numbers: &[u64], kind: u64, at: u64, gone_at: u64, n: u64) -> Said
+    ensures { λ _. ⌜ length (now (words .exit)) ≡ length (now (words .entry)) ⌝ }
+{
     if kind > 18 {
         return query(words, numbers, kind, at);
     }

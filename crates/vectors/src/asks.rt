@@ -1,11 +1,22 @@
-// The queries by their numbers in crates/export/API.md.
+// The queries by their numbers in crates/export/API.md. None has a report, so none differs in it.
+ghost use Prim.Native.Nat.{_+_, _%_, _^_};
+ghost use mathlib.Core.Path.{_≡_};
+ghost use mathlib.Core.Bool.{true};
+ghost use lib.ListN.{getD};
 use crate::said;
 use crate::said::Said;
 use crate::stream::get;
 use crate::stream::on;
 use model::Hash;
 
-pub fn hash_at(numbers: &[u64], at: u64) -> Hash {
+pub fn hash_at(numbers: &[u64], at: u64) -> Hash
+    ensures { λ r. ⌜
+        (r .a ≡ getD (now (numbers .entry)) at 0)
+        × (r .b ≡ getD (now (numbers .entry)) ((at + 1) % 2 ^ 64) 0)
+        × (r .c ≡ getD (now (numbers .entry)) ((at + 2) % 2 ^ 64) 0)
+        × (r .d ≡ getD (now (numbers .entry)) ((at + 3) % 2 ^ 64) 0)
+        ⌝ }
+{
     Hash {
         a: get(numbers, at),
         b: get(numbers, on(at, 1)),
@@ -14,7 +25,9 @@ pub fn hash_at(numbers: &[u64], at: u64) -> Hash {
     }
 }
 
-fn low_number(words: &[u64], kind: u64) -> Said {
+fn low_number(words: &[u64], kind: u64) -> Said
+    ensures { λ r. ⌜ r .reported ≡ true ⌝ }
+{
     match kind {
         19 => said::number(flat::of_number(window_queries::pending_len(words))),
         20 => said::number(flat::of_number(window_queries::pending_bytes(words))),
@@ -26,7 +39,9 @@ fn low_number(words: &[u64], kind: u64) -> Said {
     }
 }
 
-fn high_number(words: &[u64], kind: u64) -> Said {
+fn high_number(words: &[u64], kind: u64) -> Said
+    ensures { λ r. ⌜ r .reported ≡ true ⌝ }
+{
     match kind {
         26 => said::number(flat::of_number(window_queries::effective_owner_timeout(words))),
         27 => said::number(flat::of_number(window_queries::stall_timeout(words))),
@@ -36,7 +51,9 @@ fn high_number(words: &[u64], kind: u64) -> Said {
     }
 }
 
-fn seated(words: &[u64], numbers: &[u64], kind: u64, at: u64) -> Said {
+fn seated(words: &[u64], numbers: &[u64], kind: u64, at: u64) -> Said
+    ensures { λ r. ⌜ r .reported ≡ true ⌝ }
+{
     let seat = get(numbers, at);
     match kind {
         31 => said::number(flat::of_truth(window_queries::has_request_capacity(
@@ -73,7 +90,9 @@ fn seated(words: &[u64], numbers: &[u64], kind: u64, at: u64) -> Said {
     }
 }
 
-fn two(words: &[u64], numbers: &[u64], kind: u64, at: u64) -> Said {
+fn two(words: &[u64], numbers: &[u64], kind: u64, at: u64) -> Said
+    ensures { λ r. ⌜ r .reported ≡ true ⌝ }
+{
     let a = get(numbers, at);
     match kind {
         39 => said::pair(flat::of_pair(window_queries::pending_high_water(words))),
@@ -88,7 +107,9 @@ fn two(words: &[u64], numbers: &[u64], kind: u64, at: u64) -> Said {
     }
 }
 
-fn missing(words: &[u64], numbers: &[u64], kind: u64, at: u64) -> Said {
+fn missing(words: &[u64], numbers: &[u64], kind: u64, at: u64) -> Said
+    ensures { λ r. ⌜ r .reported ≡ true ⌝ }
+{
     match kind {
         43 => said::perhaps(flat::of_perhaps(window_queries::preferred_peer(words))),
         44 => said::perhaps(flat::of_perhaps(window_queries::pending_owner(
@@ -104,7 +125,9 @@ fn missing(words: &[u64], numbers: &[u64], kind: u64, at: u64) -> Said {
     }
 }
 
-fn hashes(words: &[u64]) -> Said {
+fn hashes(words: &[u64]) -> Said
+    ensures { λ r. ⌜ r .reported ≡ true ⌝ }
+{
     let f = flat::of_rows(window_queries::prefix_probe_hashes(words));
     let row = f.words;
     Said {
@@ -113,7 +136,9 @@ fn hashes(words: &[u64]) -> Said {
     }
 }
 
-pub fn query(words: &[u64], numbers: &[u64], kind: u64, at: u64) -> Said {
+pub fn query(words: &[u64], numbers: &[u64], kind: u64, at: u64) -> Said
+    ensures { λ r. ⌜ r .reported ≡ true ⌝ }
+{
     if kind < 26 {
         return low_number(words, kind);
     }

@@ -43,7 +43,10 @@ fn next_run(numbers: &[u64], at: u64) -> u64 {
 fn put_runs(words: &mut [u64], numbers: &[u64], from: u64, end: u64) {
     let mut at = from;
     let mut turns: u64 = 5000;
-    while turns > 0 && at < end {
+    while 0 < turns {
+        if at >= end {
+            return;
+        }
         put_run(words, numbers, at);
         at = next_run(numbers, at);
         turns -= 1;
@@ -72,43 +75,46 @@ fn one(words: &mut [u64], expected: &mut [u64], numbers: &[u64], at: u64) -> boo
     s.reported & told & same_words(words, expected)
 }
 
-fn counted(c: Count, same: bool) -> Count {
+// One more call that differs, or none.
+fn counted(differing: u64, same: bool) -> u64 {
     if same {
-        return Count {
-            calls: on(c.calls, 1),
-            differing: c.differing,
-        };
+        return differing;
     }
-    Count {
-        calls: on(c.calls, 1),
-        differing: on(c.differing, 1),
-    }
+    on(differing, 1)
 }
 
-fn replay(numbers: &[u64]) -> Count {
-    let mut words: [u64; 4096] = [0; 4096];
-    let mut expected: [u64; 4096] = [0; 4096];
-    let mut c = Count {
-        calls: 0,
-        differing: 0,
-    };
+fn replay(words: &mut [u64], expected: &mut [u64], numbers: &[u64]) -> Count {
+    let mut calls: u64 = 0;
+    let mut differing: u64 = 0;
     let mut at: u64 = 0;
     let mut turns: u64 = 100_000;
-    while turns > 0 && get(numbers, at) != 0 {
-        let same = one(&mut words, &mut expected, numbers, at);
-        c = counted(c, same);
+    while 0 < turns {
+        if get(numbers, at) == 0 {
+            return Count {
+                calls: calls,
+                differing: differing,
+            };
+        }
+        let same = one(words, expected, numbers, at);
+        differing = counted(differing, same);
+        calls = on(calls, 1);
         at = on(runs_at(numbers, at), get(numbers, on(at, 4)));
         turns -= 1;
     }
-    c
+    Count {
+        calls: calls,
+        differing: differing,
+    }
 }
 
 fn main() {
     let mut bytes: [u8; 600000] = [0; 600000];
     let mut numbers: [u64; 200000] = [0; 200000];
     let n = io::read_full(0, &mut bytes);
-    let k = read_numbers(&bytes[..n], &mut numbers);
-    let c = replay(&numbers);
+    read_numbers(&bytes[..n], &mut numbers);
+    let mut words: [u64; 4096] = [0; 4096];
+    let mut expected: [u64; 4096] = [0; 4096];
+    let c = replay(&mut words, &mut expected, &numbers);
     io::print_decimal(1, c.calls);
     io::write_all(1, b" calls, ");
     io::print_decimal(1, c.differing);

@@ -1,4 +1,7 @@
 // What a call said: its fields as crates/flat has them, and whether the report was the recorded one.
+ghost use mathlib.Core.Path.{_≡_};
+ghost use mathlib.Core.Bool.{true};
+ghost use Rattle.vectors.specs.Said.{row, long-row};
 use flat::FlatBlocked;
 use flat::FlatGone;
 use flat::FlatNumber;
@@ -14,7 +17,9 @@ pub struct Said {
     pub reported: bool,
 }
 
-pub fn of_fields(a: u64, b: u64, c: u64, d: u64, e: u64) -> Said {
+pub fn of_fields(a: u64, b: u64, c: u64, d: u64, e: u64) -> Said
+    ensures { λ r. ⌜ (r .fields ≡ row a b c d e) × (r .reported ≡ true) ⌝ }
+{
     let mut fields: [u64; 32] = [0; 32];
     fields[0] = a;
     fields[1] = b;
@@ -27,7 +32,9 @@ pub fn of_fields(a: u64, b: u64, c: u64, d: u64, e: u64) -> Said {
     }
 }
 
-pub fn with_report(s: Said, same: bool) -> Said {
+pub fn with_report(s: Said, same: bool) -> Said
+    ensures { λ r. ⌜ (r .fields ≡ s .fields) × (r .reported ≡ same) ⌝ }
+{
     let fields = s.fields;
     Said {
         fields: fields,
@@ -35,46 +42,70 @@ pub fn with_report(s: Said, same: bool) -> Said {
     }
 }
 
-pub fn done(n: u64) -> Said {
+pub fn done(n: u64) -> Said
+    ensures { λ r. ⌜ (r .fields ≡ row n 0 0 0 0) × (r .reported ≡ true) ⌝ }
+{
     of_fields(n, 0, 0, 0, 0)
 }
 
-pub fn number(f: FlatNumber) -> Said {
+pub fn number(f: FlatNumber) -> Said
+    ensures { λ r. ⌜ (r .fields ≡ row (f .refused) (f .value) 0 0 0) × (r .reported ≡ true) ⌝ }
+{
     of_fields(f.refused, f.value, 0, 0, 0)
 }
 
-pub fn pair(f: FlatPair) -> Said {
+pub fn pair(f: FlatPair) -> Said
+    ensures { λ r. ⌜ (r .fields ≡ row (f .refused) (f .first) (f .second) 0 0) × (r .reported ≡ true) ⌝ }
+{
     of_fields(f.refused, f.first, f.second, 0, 0)
 }
 
-pub fn perhaps(f: FlatPerhaps) -> Said {
+pub fn perhaps(f: FlatPerhaps) -> Said
+    ensures { λ r. ⌜ (r .fields ≡ row (f .refused) (f .present) (f .value) 0 0) × (r .reported ≡ true) ⌝ }
+{
     of_fields(f.refused, f.present, f.value, 0, 0)
 }
 
-pub fn perhaps_pair(f: FlatPerhapsPair) -> Said {
+pub fn perhaps_pair(f: FlatPerhapsPair) -> Said
+    ensures { λ r. ⌜ (r .fields ≡ row (f .refused) (f .present) (f .first) (f .second) 0) × (r .reported ≡ true) ⌝ }
+{
     of_fields(f.refused, f.present, f.first, f.second, 0)
 }
 
-pub fn gone(f: FlatGone) -> Said {
+pub fn gone(f: FlatGone) -> Said
+    ensures { λ r. ⌜ (r .fields ≡ row (f .refused) (f .places) 0 0 0) × (r .reported ≡ true) ⌝ }
+{
     of_fields(f.refused, f.places, 0, 0, 0)
 }
 
-pub fn received(f: FlatReceived) -> Said {
+pub fn received(f: FlatReceived) -> Said
+    ensures { λ r. ⌜ (r .fields ≡ row (f .refused) (f .places) (f .present) (f .height) 0) × (r .reported ≡ true) ⌝ }
+{
     of_fields(f.refused, f.places, f.present, f.height, 0)
 }
 
-pub fn rejected(f: FlatRejected) -> Said {
+pub fn rejected(f: FlatRejected) -> Said
+    ensures { λ r. ⌜ (r .fields ≡ row (f .refused) (f .places) (f .released) 0 0) × (r .reported ≡ true) ⌝ }
+{
     of_fields(f.refused, f.places, f.released, 0, 0)
 }
 
-pub fn plan(f: FlatPlan) -> Said {
+pub fn plan(f: FlatPlan) -> Said
+    ensures { λ r. ⌜ (r .fields ≡ row (f .refused) (f .present) (f .owner) (f .count) (f .«end_height»)) × (r .reported ≡ true) ⌝ }
+{
     of_fields(f.refused, f.present, f.owner, f.count, f.end_height)
 }
 
-pub fn blocked(f: FlatBlocked) -> Said {
-    let s = of_fields(f.refused, f.decision, f.owner, f.height, f.suppressed);
-    let mut fields = s.fields;
+pub fn blocked(f: FlatBlocked) -> Said
+    ensures { λ r. ⌜ (r .fields ≡ long-row (f .refused) (f .decision) (f .owner) (f .height) (f .suppressed) (f .hash)) × (r .reported ≡ true) ⌝ }
+{
     let h = f.hash;
+    let mut fields: [u64; 32] = [0; 32];
+    fields[0] = f.refused;
+    fields[1] = f.decision;
+    fields[2] = f.owner;
+    fields[3] = f.height;
+    fields[4] = f.suppressed;
     fields[5] = h.a;
     fields[6] = h.b;
     fields[7] = h.c;
