@@ -71,8 +71,8 @@ unfolding act settings
 opening = act (opens 5 settings (replicate 256 0))
 
 -- seat 4 asks for 1 and 2, seat 3 for 3; 1 comes, of 1,000,000 bytes; at 915 the time of seat 4 is out, that of seat 3 is not, and 2 is swept;
--- seat 3 asks for 4 to 8, and seat 7 races it for 3 to 7: it has brought 3, 4, 5 and 6, so 7 and 8 go; seat 9 asks for 1 again; a clock that goes
--- back is refused
+-- seat 3 asks for 4 to 8, of which 6, 7 and 8 are the lowest, and seat 7 races it for 3, 6, 7, 8 and 4: it has brought 3, 6, 7 and 8, so 4 and 5
+-- go, after 8 in the report; seat 9 asks for 1 again; a clock that goes back is refused
 calls : List Act
 unfolding act h
 calls =
@@ -80,12 +80,12 @@ calls =
     ∷ act (changes (requests 20 3 (0 ∷ 0 ∷ 0 ∷ 3 ∷ []) (52 ∷ []) 53 0 0))
     ∷ act (changes (receives 30 (h 1) 1000000 (From 4)))
     ∷ act (changes (expires 915))
-    ∷ act (changes (requests 920 3 (0 ∷ 0 ∷ 0 ∷ 4 ∷ 0 ∷ 0 ∷ 0 ∷ 5 ∷ 0 ∷ 0 ∷ 0 ∷ 6 ∷ 0 ∷ 0 ∷ 0 ∷ 7 ∷ 0 ∷ 0 ∷ 0 ∷ 8 ∷ []) (53 ∷ 54 ∷ 55 ∷ 56 ∷ 57 ∷ []) 58 0 0))
-    ∷ act (changes (confirms-probe 925 3 (0 ∷ 0 ∷ 0 ∷ 3 ∷ 0 ∷ 0 ∷ 0 ∷ 4 ∷ 0 ∷ 0 ∷ 0 ∷ 5 ∷ 0 ∷ 0 ∷ 0 ∷ 6 ∷ 0 ∷ 0 ∷ 0 ∷ 7 ∷ []) (7 ∷ [])))
+    ∷ act (changes (requests 920 3 (0 ∷ 0 ∷ 0 ∷ 4 ∷ 0 ∷ 0 ∷ 0 ∷ 5 ∷ 0 ∷ 0 ∷ 0 ∷ 6 ∷ 0 ∷ 0 ∷ 0 ∷ 7 ∷ 0 ∷ 0 ∷ 0 ∷ 8 ∷ []) (56 ∷ 57 ∷ 53 ∷ 54 ∷ 55 ∷ []) 58 0 0))
+    ∷ act (changes (confirms-probe 925 3 (0 ∷ 0 ∷ 0 ∷ 3 ∷ 0 ∷ 0 ∷ 0 ∷ 6 ∷ 0 ∷ 0 ∷ 0 ∷ 7 ∷ 0 ∷ 0 ∷ 0 ∷ 8 ∷ 0 ∷ 0 ∷ 0 ∷ 4 ∷ []) (7 ∷ [])))
     ∷ act (changes (receives 930 (h 3) 354376 (From 7)))
-    ∷ act (changes (receives 931 (h 4) 354376 (From 7)))
-    ∷ act (changes (receives 932 (h 5) 354376 (From 7)))
-    ∷ act (changes (receives 933 (h 6) 354376 (From 7)))
+    ∷ act (changes (receives 931 (h 6) 354376 (From 7)))
+    ∷ act (changes (receives 932 (h 7) 354376 (From 7)))
+    ∷ act (changes (receives 933 (h 8) 354376 (From 7)))
     ∷ act (changes (requests 940 9 (0 ∷ 0 ∷ 0 ∷ 1 ∷ []) (50 ∷ []) 58 0 0))
     ∷ act (changes (requests 900 9 (0 ∷ 0 ∷ 0 ∷ 2 ∷ []) (51 ∷ []) 58 0 0))
     ∷ []
@@ -97,7 +97,7 @@ the-book = written calls (new-book 5 settings (replicate 256 0))
 -- ---- the book: of each mark the call, the place, the reason and the hash
 
 marks-are : map (λ m. m .call ∷ m .place ∷ m .reason ∷ m .entry .hash .d ∷ []) (marks (the-book .lines))
-    ≡ (10 ∷ 2 ∷ 9 ∷ 8 ∷ []) ∷ (10 ∷ 1 ∷ 9 ∷ 7 ∷ []) ∷ (10 ∷ 0 ∷ 1 ∷ 6 ∷ []) ∷ (9 ∷ 0 ∷ 1 ∷ 5 ∷ []) ∷ (8 ∷ 0 ∷ 1 ∷ 4 ∷ []) ∷ (7 ∷ 0 ∷ 1 ∷ 3 ∷ [])
+    ≡ (10 ∷ 0 ∷ 1 ∷ 8 ∷ []) ∷ (9 ∷ 0 ∷ 1 ∷ 7 ∷ []) ∷ (8 ∷ 0 ∷ 1 ∷ 6 ∷ []) ∷ (10 ∷ 2 ∷ 9 ∷ 5 ∷ []) ∷ (10 ∷ 1 ∷ 9 ∷ 4 ∷ []) ∷ (7 ∷ 0 ∷ 1 ∷ 3 ∷ [])
     ∷ (4 ∷ 0 ∷ 6 ∷ 2 ∷ []) ∷ (3 ∷ 0 ∷ 1 ∷ 1 ∷ []) ∷ []
 unfolding the-book marks
 marks-are = refl
@@ -129,7 +129,7 @@ accepted : refusal (opens 5 settings (replicate 256 0)) lent-words 256 ≡ 0
 unfolding settings lent-words opening-refusal settings-ok keys-ok every all
 accepted = refl
 
-holds : Claim (the-run .words) (window-of (the-run .words)) the-book (the-run .done)
+holds : Claim lent-words (the-run .words) (window-of (the-run .words)) the-book (the-run .done)
 unfolding the-run the-book written opening calls act lent
 holds = the-book-adds-up lent-words 5 settings (replicate 256 0) (replicate 256 blank-release) calls accepted (omega arith)
 
