@@ -1,9 +1,10 @@
 -- A closed run, by computation: opening, requests of two peers, a delivery, a sweep, a prefix race won, a refused call, a second opening; what the
 -- lent words come to, and the book. `after` and `written` open on their own `unfolding` lines all that a run uses, so that a check names just them.
-use mathlib.Core.Path.{_≡_, refl, ap, _∙_}
+use mathlib.Core.Path.{_≡_, refl, ap, _∙_, subst}
+use mathlib.Core.Logic.{inl}
 use mathlib.Core.List.{List, [], _∷_, map}
 use Prim.Native.Nat.{ℕ}
-use lib.ListN.{getD, replicate}
+use lib.ListN.{length, getD, replicate}
 use lib.Count.{ones}
 use native.Mathlib.Omega.{arith}
 use Rattle.model.specs.Calls.{opened, asks-in, put, puts, raised, started, noted, mark-requested, credit-duplicate-delivery, record-delivery-progress, body-noted, credit-delivery-from, next-mean, mark-received-from}
@@ -15,7 +16,7 @@ use Rattle.model.specs.LettingGo.{without, remove-pending, gone, kept, total-af
 use Rattle.model.specs.Lists.{all, any, select, count, every}
 use Rattle.model.specs.Numbers.{lesser, greater, clock-ok, read-clock, next-height, present, age}
 use Rattle.model.specs.Pace.{sample-ms, nearer, front-mean-by, decay-floor, decayed, front-recorded, was-front, pace-opened}
-use Rattle.model.specs.Perform.{requested, changed}
+use Rattle.model.specs.Perform.{Answer, refused, requested, changed}
 use Rattle.model.specs.Races.{plan-limit, insert-by-height, by-height, walk, expected-after, plan-from, prefix-probe-plan, entered, probe-started, confirm-prefix-probe, place-of, all-four, winner, race-won, race-progress, record-prefix-probe-delivery, resolve-cold-front-delivery}
 use Rattle.model.specs.Reasons.{lowers, lowered}
 use Rattle.model.specs.Records.{new-entry, insert, remove, found, lowest, sum, pending-count-for}
@@ -27,7 +28,8 @@ use Rattle.model.specs.declared.Hash.{Hash}
 use Rattle.model.specs.declared.Release.{Release}
 use Rattle.model.specs.declared.Settings.{Settings}
 use Rattle.model.specs.declared.Source.the-variants.{From}
-use Rattle.history.specs.Run.{Act, Run, run, on-words}
+use Rattle.history.specs.Run.{Act, Done, Run, run, on-words}
+use Rattle.history.specs.Reports.{left-by, Answered}
 use Rattle.history.specs.Claim.{Claim, the-book-adds-up}
 use Rattle.history.specs.Book.{Book, opened-lines, pending-lines, gone-lines, marks, mark, mark-all, add-lines, entries-of, book-step, book, new-book}
 
@@ -152,3 +154,11 @@ second = written (opening ∷ []) the-book
 second-empty : (second .lines ≡ []) × (second .own .queue .total ≡ 0)
 unfolding second the-book
 second-empty = (refl, refl)
+
+-- ---- what the claim rules out: that a call was done, and its answer said that it was refused
+
+said-refused : {first ws : List ℕ} {w : Window} {b : Book} {h : List Done} (d : Done) (k : ℕ) → Claim first ws w b (d ∷ h)
+    → refusal (d .act .call) (left-by first h) (length (d .act .lent)) ≡ 0 → d .outcome .answer ≡ refused k → ⊥
+said-refused {first} {h = h} d k c q e =
+    let r = refusal (d .act .call) (left-by first h) (length (d .act .lent)) in
+    subst (λ (n : ℕ). Answered n (refused k)) q (subst (λ (a : Answer). Answered r a) e (c .refusals d (left-by first h) (inl (refl, refl))))
