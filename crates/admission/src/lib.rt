@@ -1,10 +1,24 @@
 // What a call is refused by, before anything of the window is read for it: 01's numbers, the lowest first.
 ghost use mathlib.Core.Path.{_≡_};
 ghost use mathlib.Core.Bool.{true, false};
+ghost use Rattle.model.specs.Numbers.{clock-ok};
 ghost use Rattle.model.specs.Layout.{settings-ok};
 ghost use Rattle.model.specs.Refusals.{at, timeless, checking, nothing, keys-ok, window-refusal, opening-refusal, body-refusal, source-ok, alternates-ok};
 use model::Settings;
 use model::Source;
+
+// `max-clock`, 2^62: the highest clock.
+const MAX_CLOCK: u64 = 4_611_686_018_427_387_904;
+
+// `max-body`: the most bytes of a body.
+const MAX_BODY: u64 = 4_294_967_295;
+
+// `clock-ok`: a clock is within the bound, and not before the last accepted one.
+fn clock_fits(last: u64, clock: u64) -> bool
+    ensures { λ r. ⌜ r ≡ clock-ok last clock ⌝ }
+{
+    (clock <= MAX_CLOCK) & (last <= clock)
+}
 
 // What a call or query without a clock and without a report is refused by: 1, 2, 6, or 0 for none.
 pub fn admits(words: &[u64], peers: bool) -> u64
@@ -32,11 +46,8 @@ pub fn admits_at(words: &[u64], clock: u64, peers: bool) -> u64
     if !check_window::is_window(words) {
         return 2;
     }
-    if clock > 4_611_686_018_427_387_904 {
-        return 4;
-    }
     let last = state::get_clock(words);
-    if clock < last {
+    if !clock_fits(last, clock) {
         return 4;
     }
     if !peers {
@@ -89,7 +100,7 @@ pub fn admits_opening(words: &[u64], clock: u64, b: Settings, keys: &[u64]) -> u
     if words.len() != 4096 {
         return 1;
     }
-    if 4611686018427387904 < clock {
+    if !clock_fits(0, clock) {
         return 4;
     }
     if !settings_fit(b) {
@@ -130,11 +141,8 @@ pub fn admits_report(words: &[u64], room: usize, clock: u64, peers: bool) -> u64
     if k != 0 {
         return k;
     }
-    if clock > 4611686018427387904 {
-        return 4;
-    }
     let accepted = state::get_clock(words);
-    if clock < accepted {
+    if !clock_fits(accepted, clock) {
         return 4;
     }
     if !peers {
@@ -151,7 +159,7 @@ pub fn admits_body(words: &[u64], room: usize, clock: u64, peers: bool, bytes: u
     if n != 0 {
         return n;
     }
-    if bytes > 4294967295 {
+    if bytes > MAX_BODY {
         return 9;
     }
     0

@@ -9,7 +9,7 @@ use Rattle.model.specs.declared.Fanout.{Fanout}
 use Rattle.model.specs.Numbers.{lesser}
 use Rattle.model.specs.Records.{pending-count-for}
 use Rattle.model.specs.Window.{Window}
-use Rattle.model.specs.Capacity.{Capacity, no-capacity, capacity, peer-inflight, capacity-left, effective-peer-inflight, has-request-capacity, batch-limit, byte-capacity, compute-request-capacity}
+use Rattle.model.specs.Capacity.{Capacity, no-capacity, capacity, peer-inflight, effective-peer-inflight, batch-limit, byte-capacity, compute-request-capacity}
 use Rattle.capacity.specs.declared.Batch.{Batch}
 use Rattle.capacity.specs.declared.Batch.the-variants.{Nothing, Upto}
 
@@ -39,13 +39,3 @@ pub compute-request-capacity-by : (source byte-headroom count-headroom : ℕ) (w
     ≡ capacity-by (w .settings) (w .fanout) (pending-count-for source (w .queue .pending)) (length (w .queue .pending)) (w .queue .total) (w .mean) byte-headroom count-headroom
 unfolding compute-request-capacity batch-limit byte-capacity effective-peer-inflight capacity-by batch-limit-by byte-capacity-by
 compute-request-capacity-by source byte-headroom count-headroom w = refl
-
-pub effective-peer-inflight-by : (w : Window) → effective-peer-inflight w ≡ peer-inflight (w .settings) (w .fanout)
-unfolding effective-peer-inflight
-effective-peer-inflight-by w = refl
-
-pub has-request-capacity-by : (byte-headroom count-headroom : ℕ) (w : Window)
-    → has-request-capacity byte-headroom count-headroom w
-    ≡ capacity-left (w .settings) (length (w .queue .pending)) (w .queue .total) (w .mean) byte-headroom count-headroom
-unfolding has-request-capacity
-has-request-capacity-by byte-headroom count-headroom w = refl

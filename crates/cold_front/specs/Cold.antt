@@ -1,12 +1,11 @@
 -- What the code's answers say in the model's words, and the laws that its steps stand on. Assumes nothing.
-use mathlib.Core.Path.{_≡_, refl, sym, ap, _∙_}
-use mathlib.Core.Bool.{Bool, true, false, cond, not, _&&_, _||_}
-use mathlib.Core.List.{List, [], _∷_, _++_}
+use mathlib.Core.Path.{_≡_, sym}
+use mathlib.Core.Bool.{true, false, _&&_, _||_}
+use mathlib.Core.List.{[], _∷_, _++_}
 use mathlib.Core.Logic.{inl, inr}
-use Prim.Native.Nat.{ℕ, zero, suc, _-_, _≤_, _<_}
+use Prim.Native.Nat.{ℕ, _-_, _≤_, _<_}
 use native.Mathlib.Omega.{arith}
-use lib.ListN.{length, getD, drop}
-use lib.Seq.{drop-cons, drop-length}
+use lib.ListN.{length}
 use lib.Dec.{eqb, leb}
 use borrow.Author.Tests.{ne-eqb, le-leb, lt-leb}
 use Rattle.model.specs.Numbers.{max-clock, present}
@@ -68,17 +67,6 @@ module _ (clock : ℕ) (k : clock ≤ max-clock) where
       | inr p ↦ rw p (at-fits (at-height next (w .queue .pending)) (w .races .cold) (w .settings .«stall_timeout_initial») s)
     ])
   ]
-
--- ---- a search from the front
-
-module _ {A : Type 0} (p : A → Bool) where
-  pub any-turn : (l : List A) (i : ℕ) (d : A) (b : Bool) → i < length l → p (getD l i d) ≡ b → any p (drop i l) ≡ b || any p (drop (suc i) l)
-  unfolding any
-  any-turn l i d b h e = ap (any p) (drop-cons l i d h) ∙ ap (λ (x : Bool). x || any p (drop (suc i) l)) e
-
-  pub any-end : (l : List A) → any p (drop (length l) l) ≡ false
-  unfolding any
-  any-end l = ap (any p) (drop-length l)
 
 -- ---- the step, case by case; x, p, n, f and s are what the code read
 

@@ -1,11 +1,9 @@
 // 01, module 8: the cold front, in words that hold a window. The last clock is not set here.
 ghost use mathlib.Core.Path.{_≡_};
-ghost use mathlib.Core.Bool.{cond, _&&_};
+ghost use mathlib.Core.Bool.{cond};
 ghost use Prim.Native.Nat.{_-_, _≤_};
-ghost use lib.Dec.{eqb, leb};
+ghost use lib.Dec.{leb};
 ghost use Rattle.model.specs.Numbers.{max-clock};
-ghost use Rattle.model.specs.Lists.{any};
-ghost use Rattle.model.specs.Hash.{same};
 ghost use Rattle.model.specs.declared.ColdFront.the-variants.{Idle, Waiting};
 ghost use Rattle.model.specs.Races.{cold-step, no-hedge, hedge, is-racing, wait-on, advance-cold-front, racing-with, hedge-offered, waits-for, confirm-cold-front-hedge};
 ghost use Rattle.model.specs.Layout.{window-of};
@@ -31,7 +29,7 @@ pub struct Turn {
 }
 
 // `is-racing`
-fn is_racing(cold: ColdFront) -> bool
+pub fn is_racing(cold: ColdFront) -> bool
     ensures { λ r. ⌜ r ≡ is-racing cold ⌝ }
 {
     match cold {
@@ -41,16 +39,6 @@ fn is_racing(cold: ColdFront) -> bool
     }
 }
 
-// A seat and a hash are another's.
-fn same_both(a: u64, b: u64, g: Hash, h: Hash) -> bool
-    ensures { λ r. ⌜ r ≡ eqb a b && same g h ⌝ }
-{
-    if a != b {
-        return false;
-    }
-    hash::equal(g, h)
-}
-
 // `racing-with`
 fn racing_with(cold: ColdFront, source: u64, h: Hash) -> bool
     ensures { λ r. ⌜ r ≡ racing-with cold source h ⌝ }
@@ -58,7 +46,7 @@ fn racing_with(cold: ColdFront, source: u64, h: Hash) -> bool
     match cold {
         ColdFront::Idle => false,
         ColdFront::Waiting(_, _, _) => false,
-        ColdFront::Racing(_, alternate, front) => same_both(alternate, source, front, h),
+        ColdFront::Racing(_, alternate, front) => hash::same_both(alternate, source, front, h),
     }
 }
 
@@ -68,7 +56,7 @@ fn waits_for(cold: ColdFront, owner: u64, h: Hash) -> bool
 {
     match cold {
         ColdFront::Idle => false,
-        ColdFront::Waiting(o, front, _) => same_both(o, owner, front, h),
+        ColdFront::Waiting(o, front, _) => hash::same_both(o, owner, front, h),
         ColdFront::Racing(_, _, _) => false,
     }
 }
@@ -119,7 +107,7 @@ fn wait_on(cold: ColdFront, e: Entry, initial: u64, clock: u64) -> Turn
     match cold {
         ColdFront::Idle => anew(e.owner, front, clock),
         ColdFront::Waiting(owner, h, since) => {
-            if same_both(owner, e.owner, h, front) {
+            if hash::same_both(owner, e.owner, h, front) {
                 return goes_on(owner, h, since, initial, clock);
             }
             anew(e.owner, front, clock)
@@ -176,23 +164,6 @@ pub fn hedge_offered(words: &[u64], source: u64, h: Hash) -> bool
     racing_with(cold, source, h)
 }
 
-// Whether a hash is among the hedged fronts.
-fn is_hedged(words: &[u64], h: Hash) -> bool
-    requires { ⌜ Whole (now words) ⌝ }
-    ensures { λ r. ⌜ r ≡ any (λ x. same x h) (window-of (now (words .entry)) .races .hedged) ⌝ }
-{
-    let n = state_races::hedged_count(words) as usize;
-    let mut i = 0;
-    while i < n {
-        let x = state_races::hedged_hash(words, i);
-        if hash::equal(x, h) {
-            return true;
-        }
-        i += 1;
-    }
-    false
-}
-
 // `confirm-cold-front-hedge`
 pub fn confirm_cold_front_hedge(words: &mut [u64], owner: u64, alternate: u64, h: Hash)
     requires { ⌜ Whole (now words) ⌝ }
@@ -203,7 +174,7 @@ pub fn confirm_cold_front_hedge(words: &mut [u64], owner: u64, alternate: u64, h
         return;
     }
     let racing = ColdFront::Racing(owner, alternate, h);
-    if is_hedged(words, h) {
+    if state_races::is_hedged(words, h) {
         state::set_cold(words, racing);
         return;
     }

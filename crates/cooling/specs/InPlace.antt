@@ -18,11 +18,6 @@ module _ {A : Type 0} (f : A → A) where
   mapped (suc i) [] = []
   mapped (suc i) (x ∷ l) = f x ∷ mapped i l
 
-  pub mapped-length : (i : ℕ) (l : List A) → length (mapped i l) ≡ length l
-  mapped-length zero l = refl
-  mapped-length (suc i) [] = refl
-  mapped-length (suc i) (x ∷ l) = ap suc (mapped-length i l)
-
   -- the next one is as it was
   pub mapped-read : (i : ℕ) (l : List A) (d : A) → getD (mapped i l) i d ≡ getD l i d
   mapped-read zero l d = refl
@@ -40,7 +35,3 @@ module _ {A : Type 0} (f : A → A) where
   mapped-done zero (x ∷ l) h = absurd (not-suc-le-zero h)
   mapped-done (suc i) [] h = refl
   mapped-done (suc i) (x ∷ l) h = ap (λ (r : List A). f x ∷ r) (mapped-done i l (le-of-suc-le-suc h))
-
-  pub map-length : (l : List A) → length (map f l) ≡ length l
-  map-length [] = refl
-  map-length (x ∷ l) = ap suc (map-length l)

@@ -16,7 +16,7 @@ ghost use Rattle.model.specs.Says.{received-says};
 ghost use Rattle.model.specs.Window.{and-then};
 ghost use Rattle.laws.specs.Sound.{Sound, SoundSource};
 ghost use Rattle.laws.specs.Whole.{Whole, Holds};
-ghost use Rattle.report_words.specs.Report.{nine, releases-of};
+ghost use Rattle.report_words.specs.Report.{releases-of};
 ghost use Rattle.delivery_calls.specs.Receives.{delivered, taken};
 use model::Entry;
 use model::Front;
@@ -89,14 +89,6 @@ fn credit_by(
 
 // ---- a body
 
-// The words of the delivered entry's release.
-fn delivered_words(e: Entry) -> [u64; 9]
-    ensures { λ r. ⌜ r ≡ nine e 1 ⌝ }
-{
-    let h = e.hash;
-    [h.a, h.b, h.c, h.d, e.owner, e.time, e.height, e.estimate, 1]
-}
-
 // The delivered entry, where there is one, before the n releases that the credit left. Most often it left none, and nothing has to move.
 fn put_delivered(gone: &mut [u64], front: Front, n: usize) -> usize
     requires { ⌜ (length (now gone) ≡ 2304) × (length (delivered front) + n ≤ 256) ⌝ }
@@ -109,7 +101,7 @@ fn put_delivered(gone: &mut [u64], front: Front, n: usize) -> usize
         report_words::put_release(gone, 0, e, 1);
         return 1;
     }
-    let first = delivered_words(e);
+    let first = report_words::nine(e, 1);
     report_first::put_first(gone, &first);
     n + 1
 }

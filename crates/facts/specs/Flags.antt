@@ -8,8 +8,8 @@ use native.Mathlib.Nat.{le-of-suc-le-suc, not-suc-le-zero, eq-or-lt-of-le}
 use native.Mathlib.Numerals.{add-one}
 use native.Mathlib.Omega.{arith}
 use lib.ListN.{getD}
-use lib.Dec.{eqb, ltb, leb}
-use borrow.Author.Tests.{eqb-true, leb-true, ltb-true, eq-eqb, le-leb, lt-ltb}
+use lib.Dec.{eqb, leb}
+use borrow.Author.Tests.{eqb-true, leb-true, eq-eqb, le-leb}
 use Rattle.model.specs.Lists.{all, every}
 use Rattle.laws.specs.Numbers.{and-left, and-right, and-both}
 use Rattle.laws.specs.Every.{hold}
@@ -90,15 +90,6 @@ module _ (p : ℕ → Bool) where
   all-each zero f = refl
   all-each (suc n) f = and-both (all-below n p) (p n) (all-each n (λ k l. f k (omega arith))) (f n (omega arith))
 
--- tests that agree below n
-pub all-cong : (p q : ℕ → Bool) (n : ℕ) → ((k : ℕ) → k < n → p k ≡ q k) → all-below n p ≡ all-below n q
-unfolding all-below
-all-cong p q zero f = refl
-all-cong p q (suc n) f =
-    let a = all-cong p q n (λ k l. f k (omega arith)) in
-    let b = f n (omega arith) in
-    λ i. a i && b i
-
 -- ---- each element of a list
 
 pub all-append : {A : Type 0} (p : A → Bool) (xs ys : List A) → all p (xs ++ ys) ≡ (all p xs && all p ys)
@@ -122,9 +113,6 @@ says-same a b x y = same a b (λ h. y .from (x .gives h)) (λ h. x .from (y .giv
 pub says-le : (a b : ℕ) → Says (leb a b) (a ≤ b)
 says-le a b = record { gives = leb-true a b; from = le-leb a b }
 
-pub says-lt : (a b : ℕ) → Says (ltb a b) (a < b)
-says-lt a b = record { gives = ltb-true a b; from = lt-ltb a b }
-
 pub says-eq : (a b : ℕ) → Says (eqb a b) (a ≡ b)
 says-eq a b = record { gives = eqb-true a b; from = eq-eqb a b }
 
@@ -139,9 +127,3 @@ says-iff s f g = record { gives = λ h. f (s .gives h); from = λ q. s .from (g 
 
 pub says-is : {a b : Bool} {P : Type 0} → a ≡ b → Says b P → Says a P
 says-is e s = record { gives = λ h. s .gives (sym e ∙ h); from = λ p. e ∙ s .from p }
-
-pub says-all : (p : ℕ → Bool) {P : ℕ → Type 0} (n : ℕ) → ((k : ℕ) → Says (p k) (P k)) → Says (all-below n p) ((k : ℕ) → k < n → P k)
-says-all p n s = record {
-  gives = λ h k l. s k .gives (all-at p n k l h);
-  from = λ f. all-each p n (λ k l. s k .from (f k l));
-}

@@ -8,5 +8,3 @@ pub mod Sound
 pub mod Entries
 pub mod Seats
 pub mod Whole
-pub mod Facts
-pub mod Frame

@@ -2,21 +2,19 @@
 use mathlib.Core.Path.{_≡_, refl, sym, ap, _∙_}
 use mathlib.Core.Bool.{Bool, true}
 use mathlib.Core.List.{List, [], _∷_, _++_}
-use Prim.Native.Nat.{ℕ, zero, suc, _+_, _*_, _-_, _≤_, _<_}
+use Prim.Native.Nat.{ℕ, zero, suc, _+_, _-_, _≤_, _<_}
 use native.Mathlib.Nat.{le-of-suc-le-suc, not-suc-le-zero}
 use native.Mathlib.Omega.{arith}
-use lib.ListN.{length, getD, take, drop, replicate, length-drop, length-replicate}
-use lib.Seq.{ext-getD, getD-take, getD-drop, length-take-le, take-suc}
-use borrow.Author.Tests.{eqb-true, eq-eqb}
+use lib.ListN.{length, getD, take, drop, length-drop}
+use lib.Seq.{getD-take, getD-drop, length-take-le, take-suc}
 use Rattle.model.specs.Lists.{all}
 use Rattle.model.specs.Hash.{hash}
-use Rattle.model.specs.Layout.{is-0, is-blank, blank, entry-at, rows, field}
+use Rattle.model.specs.Layout.{is-blank, blank, entry-at, rows}
 use Rattle.model.specs.declared.Entry.{Entry}
 use Rattle.laws.specs.Numbers.{and-left, and-right, and-both}
 use Rattle.laws.specs.Rows.{length-rows, rows-at}
-use Rattle.facts.specs.Flags.{Says, says-iff, says-all, says-eq, says-is, fold, fold-every, all-below}
-use Rattle.facts.specs.Words.{zeros, entry, blanks, blank-at}
-use Rattle.facts.specs.Oldest.{getD-replicate}
+use Rattle.facts.specs.Flags.{Says, fold-every}
+use Rattle.facts.specs.Words.{entry, blanks, blank-at}
 
 -- ---- each element, by its place
 
@@ -46,21 +44,6 @@ pub says-part : (p : ℕ → Bool) (ws : List ℕ) (a n : ℕ) → a + n ≤ len
 says-part p ws a n h =
     says-places p 0 (take n (drop a ws)) n (λ k. getD ws (a + k) 0) (length-take-le n (drop a ws) (omega (arith, length-drop a ws)))
     (λ k b. getD-take n (drop a ws) k 0 b ∙ getD-drop a ws k 0)
-
-abbrev pub Zeros : List ℕ → ℕ → ℕ → Type 0
-Zeros ws a n = (k : ℕ) → k < n → getD ws (a + k) 0 ≡ 0
-
-pub says-zeros : (ws : List ℕ) (a n : ℕ) → a + n ≤ length ws → Says (zeros ws a n) (Zeros ws a n)
-unfolding zeros
-says-zeros ws a n h =
-    says-iff (says-part is-0 ws a n h) (λ f k b. eqb-true (getD ws (a + k) 0) 0 (f k b)) (λ f k b. eq-eqb (getD ws (a + k) 0) 0 (f k b))
-
--- zeros as a part of the list
-pub zeros-part : (ws : List ℕ) (a n : ℕ) → a + n ≤ length ws → Zeros ws a n → take n (drop a ws) ≡ replicate n 0
-zeros-part ws a n h z =
-    let len : length (take n (drop a ws)) ≡ n = length-take-le n (drop a ws) (omega (arith, length-drop a ws)) in
-    ext-getD 0 (take n (drop a ws)) (replicate n 0) (len ∙ sym (length-replicate n 0))
-    (λ i l. getD-take n (drop a ws) i 0 (omega arith) ∙ getD-drop a ws i 0 ∙ z i (omega arith) ∙ sym (getD-replicate n i))
 
 -- ---- the rows
 
@@ -108,28 +91,3 @@ module _ (ws : List ℕ) where
 pub blank-is : (ws : List ℕ) (i : ℕ) → blank-at ws i ≡ is-blank (entry ws i)
 unfolding blank-at blanks is-blank entry
 blank-is ws i = fold-every (blanks ws i)
-
--- the word of place i in the column c
-pub field-entry : (ws : List ℕ) (i c : ℕ) → c < 8 → field c (entry ws i) ≡ getD ws (256 * c + i) 0
-unfolding entry
-field-entry ws i zero h = let e : i ≡ 256 * 0 + i = omega arith in ap (λ (n : ℕ). getD ws n 0) e
-field-entry ws i (suc zero) h = refl
-field-entry ws i (suc (suc zero)) h = refl
-field-entry ws i (suc (suc (suc zero))) h = refl
-field-entry ws i (suc (suc (suc (suc zero)))) h = refl
-field-entry ws i (suc (suc (suc (suc (suc zero))))) h = refl
-field-entry ws i (suc (suc (suc (suc (suc (suc zero)))))) h = refl
-field-entry ws i (suc (suc (suc (suc (suc (suc (suc zero))))))) h = refl
-field-entry ws i (suc (suc (suc (suc (suc (suc (suc (suc n)))))))) h = absurd (omega arith)
-
-blank-row : (e : Entry) → is-blank e ≡ all-below 8 (λ c. is-0 (field c e))
-unfolding is-blank all-below fold
-blank-row e =
-    sym (fold-every (is-0 (e .hash .a) ∷ is-0 (e .hash .b) ∷ is-0 (e .hash .c) ∷ is-0 (e .hash .d)
-    ∷ is-0 (e .owner) ∷ is-0 (e .time) ∷ is-0 (e .height) ∷ is-0 (e .estimate) ∷ []))
-
-pub says-blank : (ws : List ℕ) (i : ℕ) → Says (is-blank (entry ws i)) ((c : ℕ) → c < 8 → getD ws (256 * c + i) 0 ≡ 0)
-says-blank ws i =
-    let e = entry ws i in
-    says-iff (says-is (blank-row e) (says-all (λ c. is-0 (field c e)) 8 (λ c. says-eq (field c e) 0)))
-    (λ f c h. sym (field-entry ws i c h) ∙ f c h) (λ f c h. field-entry ws i c h ∙ f c h)

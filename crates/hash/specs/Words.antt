@@ -1,12 +1,11 @@
 -- Comparing two numbers word by word: the laws about the model's `wide` and `key`. Assumes nothing.
-use mathlib.Core.Path.{_≡_, refl, sym}
+use mathlib.Core.Path.{_≡_, sym}
 use mathlib.Core.Logic.{inl, inr}
-use mathlib.Core.Bool.{true}
 use Prim.Native.Nat.{ℕ, _+_, _*_, _<_}
 use native.Mathlib.Omega.{arith}
 use lib.Dec.{eqb, ltb}
 use borrow.Author.Tests.{ltb-true, ltb-false, lt-ltb, le-ltb, eq-eqb, ne-eqb, eqb-true, eqb-false}
-use Rattle.model.specs.Hash.{base, wide, key, hash, same}
+use Rattle.model.specs.Hash.{base, wide}
 use Rattle.model.specs.declared.Hash.{Hash}
 use Rattle.laws.specs.Numbers.{both}
 
@@ -48,15 +47,6 @@ wide-last x y u v q = elim (both (eqb u v)) [
   | inr p ↦ rw p (sym (ne-eqb (x * base + u) (y * base + v) (λ r. eqb-false u v p (omega arith))))
 ]
 
--- the words that two equal numbers end in are equal, and so are those before
-pub wide-split-last : (x y u v : ℕ) → u < base → v < base → wide x u ≡ wide y v → u ≡ v
-unfolding wide
-wide-split-last x y u v a b q = omega arith
-
-pub wide-split-first : (x y u v : ℕ) → u < base → v < base → wide x u ≡ wide y v → x ≡ y
-unfolding wide
-wide-split-first x y u v a b q = omega arith
-
 -- ---- hashes
 
 -- the words of a hash are words
@@ -65,23 +55,3 @@ pub record Words (h : Hash) : Type 0 where
   pub b : h .b < base
   pub c : h .c < base
   pub d : h .d < base
-
--- a number is the key of just one hash of words
-pub key-one : (g h : Hash) → Words g → Words h → key g ≡ key h → g ≡ h
-unfolding key
-key-one g h p q e =
-    let e3 = wide-split-first _ _ _ _ (p .d) (q .d) e in
-    let e2 = wide-split-first _ _ _ _ (p .c) (q .c) e3 in
-    let qd = wide-split-last _ _ _ _ (p .d) (q .d) e in
-    let qc = wide-split-last _ _ _ _ (p .c) (q .c) e3 in
-    let qb = wide-split-last _ _ _ _ (p .b) (q .b) e2 in
-    let qa = wide-split-first _ _ _ _ (p .b) (q .b) e2 in
-    λ i. hash (qa i) (qb i) (qc i) (qd i)
-
-pub same-one : (g h : Hash) → Words g → Words h → same g h ≡ true → g ≡ h
-unfolding same
-same-one g h p q e = key-one g h p q (eqb-true (key g) (key h) e)
-
-pub same-self : (h : Hash) → same h h ≡ true
-unfolding same
-same-self h = eq-eqb (key h) (key h) refl

@@ -1,5 +1,7 @@
 // Equality and order of hashes. The model compares the numbers that the 32 bytes make; the code compares word by word.
 ghost use mathlib.Core.Path.{_≡_};
+ghost use mathlib.Core.Bool.{_&&_};
+ghost use lib.Dec.{eqb};
 ghost use Rattle.model.specs.Hash.{hash, same, less};
 use model::Hash;
 
@@ -40,6 +42,16 @@ pub fn equal(g: Hash, h: Hash) -> bool
     ensures { λ r. ⌜ r ≡ same g h ⌝ }
 {
     equal_words(g.a, g.b, g.c, g.d, h.a, h.b, h.c, h.d)
+}
+
+// Whether a number and a hash are the same as others: owner and front of an episode or of a cold front, height and hash of a frontier.
+pub fn same_both(a: u64, b: u64, g: Hash, h: Hash) -> bool
+    ensures { λ r. ⌜ r ≡ (eqb a b && same g h) ⌝ }
+{
+    if a != b {
+        return false;
+    }
+    equal(g, h)
 }
 
 // `less`

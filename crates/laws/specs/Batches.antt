@@ -1,32 +1,29 @@
 -- Letting go in batches. What resets make of a seat, once all that goes has gone, depends only on its oldest request before and after, so that
 -- retirement one by one is a batch: all out first, then one reset for each. Assumes nothing.
 use mathlib.Core.Path.{_≡_, refl, sym, ap, _∙_, subst}
-use mathlib.Core.Logic.{_⊎_, inl, inr}
-use mathlib.Core.Bool.{Bool, true, false, cond, not, _&&_}
-use mathlib.Core.List.{List, [], _∷_, _++_, map}
+use mathlib.Core.Logic.{inl, inr}
+use mathlib.Core.Bool.{Bool, true, false, cond}
+use mathlib.Core.List.{List, [], _∷_, map}
 use Prim.Native.Nat.{ℕ, zero, suc, _+_, _-_, _≤_, _<_}
 use native.Mathlib.Omega.{arith}
-use lib.ListN.{length, getD, set, length-set}
+use lib.ListN.{length, getD, length-set}
 use lib.Seq.{getD-set-same, getD-set-other, ext-getD}
-use lib.Dec.{eqb, ltb, leb}
+use lib.Dec.{eqb, ltb}
 use borrow.Author.Tests.{eqb-true, eqb-false, eq-eqb, ne-eqb, le-ltb}
 use Rattle.model.specs.Lists.{select}
 use Rattle.model.specs.Hash.{key, same}
-use Rattle.model.specs.Numbers.{greater}
-use Rattle.model.specs.Records.{found, remove, sum}
+use Rattle.model.specs.Records.{found, sum}
 use Rattle.model.specs.Seats.{oldest, start-reset, body-reset, reset-owner-queue-start}
-use Rattle.model.specs.Time.{expired, effective-owner-timeout, owner-download-expired, active}
-use Rattle.model.specs.Reasons.{lowered, release}
-use Rattle.model.specs.Window.{Window, Queue, queue, Step, stay, and-then, with-queue, with-frontier}
-use Rattle.model.specs.LettingGo.{without, take-out, remove-pending, retire-all, retire-before, gone, kept, if-gone, total-after, frontier-after, extract, resets, sweep-reason, skipped, expire-pending, forecast, forecast-blocks, forecast-bytes}
-use Rattle.model.specs.declared.Hash.{Hash}
+use Rattle.model.specs.Time.{effective-owner-timeout, owner-download-expired, active}
+use Rattle.model.specs.Reasons.{release}
+use Rattle.model.specs.Window.{Window, Queue, queue, Step, and-then, with-queue, with-frontier}
+use Rattle.model.specs.LettingGo.{without, remove-pending, retire-all, retire-before, gone, kept, if-gone, total-after, frontier-after, extract, resets, sweep-reason, expire-pending, forecast, forecast-blocks, forecast-bytes}
 use Rattle.model.specs.declared.Entry.{Entry}
 use Rattle.model.specs.declared.Release.{Release}
-use Rattle.model.specs.declared.Front.{Front}
-use Rattle.model.specs.declared.Front.the-variants.{Nothing, At}
+use Rattle.model.specs.declared.Front.the-variants.{At}
 use Rattle.laws.specs.Numbers.{both, cond-same, greater-first}
 use Rattle.laws.specs.Bag.{weigh, one, Pick, here, there, pick-weigh}
-use Rattle.laws.specs.Entries.{estimate-of, on, with-hash, on-self, by-entry, Rising, rising-one, remove-pick, Finding, missing, at, found-is, Picks, done, more, picks-weigh, sift, Each, each-picks, owned, early, oldest-none, oldest-first, first-oldest}
+use Rattle.laws.specs.Entries.{estimate-of, on, with-hash, on-self, by-entry, rising-one, remove-pick, at, Picks, done, more, picks-weigh, sift, each-picks, owned, early, oldest-none, oldest-first, first-oldest}
 use Rattle.laws.specs.Sound.{InRange, Seat, SoundQueue, Sound}
 use Rattle.laws.specs.Queues.{oldest-top, resets-pending, resets-total, queue-outs}
 use Rattle.laws.specs.Lets.{remove-lets}

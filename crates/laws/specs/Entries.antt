@@ -201,10 +201,6 @@ module _ (P : Entry → Type 0) where
   each-pick here a = a .1
   each-pick (there p) a = (a .0, each-pick p (a .1))
 
-  pub each-picked : {e : Entry} {l m : List Entry} → Pick e l m → Each l → P e
-  each-picked here a = a .0
-  each-picked (there p) a = each-picked p (a .1)
-
   pub each-unpick : {e : Entry} {l m : List Entry} → Pick e l m → P e → Each m → Each l
   each-unpick here x a = (x, a)
   each-unpick (there p) x a = (a .0, each-unpick p x (a .1))

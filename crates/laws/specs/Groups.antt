@@ -20,7 +20,7 @@ use Rattle.model.specs.declared.Stuck.{Stuck}
 use Rattle.model.specs.declared.ColdFront.{ColdFront}
 use Rattle.model.specs.declared.Probe.{Probe}
 use Rattle.model.specs.declared.Observation.{Observation}
-use Rattle.laws.specs.Tables.{with-entries, with-starts, with-bodies, with-racers, with-head, with-words, replaced, removed, put-in, kept-rows}
+use Rattle.laws.specs.Tables.{with-entries, with-racers, with-head, with-words, replaced, removed, put-in, kept-rows}
 use Rattle.laws.specs.Tables as tables
 use Rattle.laws.specs.Whole.{Shaped, length-stall, length-stuck, length-cold, length-hedged, length-observation, length-probe, length-planned}
 
@@ -52,10 +52,6 @@ module _ (w : Window) where
   pub clock-in : (c : ℕ) → with-words 2 (c ∷ []) (table w) ≡ table (with-clock c w)
   unfolding with-words with-head replaced table head-words counts-words small-words
   clock-in c = refl
-
-  pub total-in : (n : ℕ) → with-words 3 (n ∷ []) (table w) ≡ table (with-queue (queue n (w .queue .pending) (w .queue .starts) (w .queue .bodies)) w)
-  unfolding with-words with-head replaced table head-words counts-words small-words
-  total-in n = refl
 
   pub high-in : (h : HighWater) → with-words 4 (h .blocks ∷ h .bytes ∷ []) (table w) ≡ table (with-high h w)
   unfolding with-words with-head replaced table head-words counts-words small-words
@@ -175,14 +171,6 @@ module _ (w : Window) where
 -- ---- the tables
 
 module _ (w : Window) where
-  pub starts-in : (l : List ℕ) → with-starts l (table w) ≡ table (with-queue (queue (w .queue .total) (w .queue .pending) l (w .queue .bodies)) w)
-  unfolding with-words with-head replaced table head-words counts-words small-words with-starts
-  starts-in l = refl
-
-  pub bodies-in : (l : List ℕ) → with-bodies l (table w) ≡ table (with-queue (queue (w .queue .total) (w .queue .pending) (w .queue .starts) l) w)
-  unfolding with-words with-head replaced table head-words counts-words small-words with-bodies
-  bodies-in l = refl
-
   pub cooling-in : (l : List ℕ) → tables.with-cooling l (table w) ≡ table (with-cooling l w)
   unfolding with-words with-head replaced table head-words counts-words small-words tables.with-cooling
   cooling-in l = refl

@@ -25,7 +25,7 @@ use Rattle.model.specs.declared.Probe.{Probe}
 use Rattle.model.specs.declared.Probe.the-variants.{NoProbe, Probing}
 use Rattle.model.specs.declared.Observation.{Observation}
 use Rattle.model.specs.declared.Observation.the-variants.{Unarmed, Armed, Swept}
-use Rattle.laws.specs.Every.{and-so, all-first, all-rest}
+use Rattle.laws.specs.Every.{all-first, all-rest}
 
 -- ---- parts of a list
 
@@ -70,11 +70,6 @@ pub all-zeros : (n : ℕ) → all is-0 (replicate n 0) ≡ true
 unfolding all
 all-zeros zero = refl
 all-zeros (suc n) = all-zeros n
-
-pub all-append : {A : Type 0} (p : A → Bool) (l m : List A) → all p l ≡ true → all p m ≡ true → all p (l ++ m) ≡ true
-unfolding all
-all-append p [] m a b = b
-all-append p (x ∷ l) m a b = and-so (all-first p x l a) (all-append p l m (all-rest p x l a) b)
 
 -- ---- hashes in words
 

@@ -1,14 +1,14 @@
 -- A mark for each entry, 0 where it stays, else its reason: what goes and what is kept by marks is what goes and is kept by the model's `goes`.
 -- Assumes nothing.
 use mathlib.Core.Path.{_≡_, refl, sym, ap, _∙_}
-use mathlib.Core.List.{List, [], _∷_, _++_, map}
+use mathlib.Core.List.{List, [], _∷_, map}
 use Prim.Native.Nat.{ℕ, zero, suc, _+_, _-_, _≤_, _<_}
 use native.Mathlib.Nat.{le-of-suc-le-suc, not-suc-le-zero}
 use native.Mathlib.Omega.{arith}
 use lib.ListN.{length, getD, take, drop}
 use Rattle.model.specs.Lists.{keptIf, keepBy}
 use Rattle.model.specs.Reasons.{release}
-use Rattle.model.specs.Window.{Window, Queue, queue, Step, with-queue, with-frontier}
+use Rattle.model.specs.Window.{Window, queue, Step, with-queue, with-frontier}
 use Rattle.model.specs.LettingGo.{if-gone, if-kept, gone, kept, total-after, frontier-after, extract}
 use Rattle.model.specs.declared.Entry.{Entry}
 use Rattle.model.specs.declared.Release.{Release}

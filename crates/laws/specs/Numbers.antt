@@ -5,9 +5,9 @@ use mathlib.Core.Bool.{Bool, true, false, cond, _&&_}
 use Prim.Native.Nat.{ℕ, suc, _+_, _-_, _*_, _/_, _≤_, _<_}
 use native.Mathlib.Nat.{add-div-right, div-eq-of-lt, mul-le-mul}
 use native.Mathlib.Omega.{arith}
-use lib.Dec.{eqb, leb}
-use borrow.Author.Tests.{le-leb, leb-true, leb-false, ne-eqb, eqb-true, eqb-false, not-true, not-false}
-use Rattle.model.specs.Numbers.{lesser, greater, div-ceil, max-clock, clock-ok, max-height, next-height, present, age}
+use lib.Dec.{leb}
+use borrow.Author.Tests.{le-leb, leb-true, leb-false, ne-eqb}
+use Rattle.model.specs.Numbers.{lesser, greater, div-ceil, max-height, next-height, present, age}
 
 -- ---- tests
 
@@ -93,13 +93,6 @@ greater-first a b h = elim (both (leb a b)) [
   | inr q ↦ rw q
 ]
 
-pub first-le-greater : (a b : ℕ) → a ≤ greater a b
-unfolding greater
-first-le-greater a b = elim (both (leb a b)) [
-  | inl q ↦ rw q (leb-true a b q)
-  | inr q ↦ rw q (omega arith)
-]
-
 pub second-le-greater : (a b : ℕ) → b ≤ greater a b
 unfolding greater
 second-le-greater a b = elim (both (leb a b)) [
@@ -129,18 +122,6 @@ div-ceil-pos a b p h =
 
 -- ---- clocks
 
-pub clock-ok-most : (last c : ℕ) → clock-ok last c ≡ true → c ≤ max-clock
-unfolding clock-ok
-clock-ok-most last c e = leb-true c max-clock (and-left (leb c max-clock) (leb last c) e)
-
-pub clock-ok-later : (last c : ℕ) → clock-ok last c ≡ true → last ≤ c
-unfolding clock-ok
-clock-ok-later last c e = leb-true last c (and-right (leb c max-clock) (leb last c) e)
-
-pub ok-clock : (last c : ℕ) → c ≤ max-clock → last ≤ c → clock-ok last c ≡ true
-unfolding clock-ok
-ok-clock last c p q = and-both (leb c max-clock) (leb last c) (le-leb c max-clock p) (le-leb last c q)
-
 -- ---- heights
 
 pub next-height-le : (h : ℕ) → next-height h ≤ max-height
@@ -157,23 +138,10 @@ pub present-some : (s : ℕ) → (s ≡ 0 → ⊥) → present s ≡ true
 unfolding present
 present-some s n = rw (ne-eqb s 0 n)
 
-pub some-present : (s : ℕ) → present s ≡ true → s ≡ 0 → ⊥
-unfolding present
-some-present s e = eqb-false s 0 (not-true (eqb s 0) e)
-
-pub none-present : (s : ℕ) → present s ≡ false → s ≡ 0
-unfolding present
-none-present s e = eqb-true s 0 (not-false (eqb s 0) e)
-
 -- the age, in the code's terms
 pub age-is : (now s : ℕ) → age now s ≡ now + 1 - s
 unfolding age
 age-is now s = omega arith
-
--- of the stored time of t
-pub age-stored : (now t : ℕ) → age now (suc t) ≡ now - t
-unfolding age
-age-stored now t = omega arith
 
 -- no age of a stored time is above the clock
 pub age-le : (now s : ℕ) → (s ≡ 0 → ⊥) → age now s ≤ now

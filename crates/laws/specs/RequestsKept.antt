@@ -149,10 +149,6 @@ module _ (owner c estimate : ℕ) where
       let self : owned owner e ≡ 1 = rw (eq-eqb owner owner refl) in
       omega (arith, puts-more (owned owner) ks (put e q), pick-weigh (owned owner) (insert-pick e (q .pending)))
 
-  noted-pos : (start : ℕ) → 0 < start-noted c start
-  noted-pos zero = omega arith
-  noted-pos (suc s) = omega arith
-
   -- the owner's start
   owner-seat : (a : Ask) (ks : List Ask) (q : Queue) (start : ℕ) → Each (InRange c) (into (a ∷ ks) q .pending) → Seat (oldest owner (q .pending)) start (suc c)
       → Seat (oldest owner (into (a ∷ ks) q .pending)) (start-noted c start) (suc c)

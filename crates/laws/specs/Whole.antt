@@ -25,7 +25,7 @@ use Rattle.model.specs.declared.Probe.the-variants.{NoProbe, Probing}
 use Rattle.model.specs.declared.Observation.{Observation}
 use Rattle.model.specs.declared.Observation.the-variants.{Unarmed, Armed, Swept}
 use Rattle.laws.specs.Tables.{Sized, sized-decode, words-are, decode-flat, length-flat}
-use Rattle.laws.specs.Sound.{Sound, SoundProbe}
+use Rattle.laws.specs.Sound.{Sound}
 use Rattle.laws.specs.Valid.{rising-is}
 use Rattle.laws.specs.Words.{words-encode, words-sound}
 use Rattle.laws.specs.Heads.{seg, word-is, length-padded, hashes-said, source-back, flag-back, stall-back, stuck-back, cold-back, observation-back, probe-back}
@@ -177,22 +177,6 @@ read-shaped t s = record {
 pub words-shaped : (ws : List ℕ) → length ws ≡ 4096 → Shaped (window-of ws)
 unfolding window-of
 words-shaped ws n = read-shaped (decode ws) (sized-decode ws n)
-
-pub sound-shaped : (c : ℕ) (w : Window) → Sound c w → Shaped w
-sound-shaped c w g = record {
-  few = g .queue .few;
-  starts = g .queue .seats;
-  bodies = g .queue .bodies .places;
-  keys = g .keys .places;
-  cooling = g .cooling .places;
-  racers = g .races .racers .places;
-  hedged = g .races .hedged;
-  planned = planned (w .races .probe) (g .races .probe);
-}
-  where
-    planned : (p : Probe) → SoundProbe c p (w .races .planned) (w .races .racers) → length (w .races .planned) ≤ 8
-    planned NoProbe h = omega (arith, ap length (h .0))
-    planned (Probing owner accepted started) h = h .3
 
 -- ---- words and the window that they hold
 

@@ -7,23 +7,12 @@ ghost use lib.ListN.{length};
 ghost use Rattle.model.specs.Pace.{pace};
 ghost use Rattle.model.specs.Layout.{decode, word, hash-at, settings-of, source-of, settings-words, flag-word, source-word};
 ghost use Rattle.laws.specs.Tables.{with-words};
-ghost use Rattle.layout.specs.Head.{counts-of, counts-list, fanout-of, fanout-list, pace-list};
+ghost use Rattle.layout.specs.Head.{fanout-of, fanout-list, pace-list};
 use model::Fanout;
 use model::Hash;
 use model::Pace;
 use model::Settings;
 use model::Source;
-
-// Count of records, last clock, total, high waters of blocks and bytes, mean, frontier.
-pub struct Counts {
-    pub count: u64,
-    pub clock: u64,
-    pub total: u64,
-    pub blocks: u64,
-    pub bytes: u64,
-    pub mean: u64,
-    pub frontier: u64,
-}
 
 // ---- single words
 
@@ -66,44 +55,7 @@ pub fn hash_of(words: &[u64], k: usize) -> Hash
     }
 }
 
-// ---- counts, settings, fan-out, pace
-
-pub fn load_counts(words: &[u64]) -> Counts
-    requires { ⌜ length (now words) ≡ 4096 ⌝ }
-    ensures { λ r. ⌜ r ≡ counts-of (decode (now (words .entry))) ⌝ }
-{
-    Counts {
-        count: words[3585],
-        clock: words[3586],
-        total: words[3587],
-        blocks: words[3588],
-        bytes: words[3589],
-        mean: words[3590],
-        frontier: words[3591],
-    }
-}
-
-fn counts_list(c: Counts) -> [u64; 7]
-    ensures { λ r. ⌜ r ≡ counts-list c ⌝ }
-{
-    [
-        c.count,
-        c.clock,
-        c.total,
-        c.blocks,
-        c.bytes,
-        c.mean,
-        c.frontier,
-    ]
-}
-
-pub fn store_counts(words: &mut [u64], c: Counts)
-    requires { ⌜ length (now words) ≡ 4096 ⌝ }
-    ensures { λ _. ⌜ decode (now (words .exit)) ≡ with-words 1 (counts-list c) (decode (now (words .entry))) ⌝ }
-{
-    let l = counts_list(c);
-    store_at(words, 1, &l);
-}
+// ---- settings, fan-out, pace
 
 pub fn load_settings(words: &[u64]) -> Settings
     requires { ⌜ length (now words) ≡ 4096 ⌝ }

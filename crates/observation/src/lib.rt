@@ -30,7 +30,7 @@ fn clear_watch(words: &mut [u64])
     state::set_stall(words, Stall::Calm);
     state::set_observation(words, Observation::Unarmed);
     let cold = state::get_cold(words);
-    if watch::is_racing(cold) {
+    if cold_front::is_racing(cold) {
         return;
     }
     state::set_cold(words, ColdFront::Idle);

@@ -1,6 +1,6 @@
 -- Words that are 0 throughout, and a new window made of them. Assumes nothing.
-use mathlib.Core.Path.{_≡_, refl, sym, ap, _∙_}
-use mathlib.Core.List.{List, [], _∷_, _++_}
+use mathlib.Core.Path.{_≡_, refl, ap, _∙_}
+use mathlib.Core.List.{List, [], _∷_}
 use Prim.Native.Nat.{ℕ, zero, suc, _+_, _≤_}
 use native.Mathlib.Omega.{arith}
 use lib.ListN.{length, getD, take, drop, replicate, length-replicate}
@@ -8,10 +8,8 @@ use Rattle.model.specs.Lists.{pad}
 use Rattle.model.specs.Hash.{hash, hashes-words}
 use Rattle.model.specs.Pace.{pace-opened}
 use Rattle.model.specs.Calls.{opened}
-use Rattle.model.specs.Window.{Window}
 use Rattle.model.specs.Layout.{Table, blank, entry-at, rows, decode, encode, table, settings-words, counts-words, small-words, hedged-words, planned-words, head-words}
 use Rattle.model.specs.declared.Settings.{Settings}
-use Rattle.model.specs.declared.Entry.{Entry}
 use Rattle.laws.specs.Tables.{with-keys, with-head, replaced, with-words, words-are}
 use Rattle.laws.specs.Whole.{Shaped, Holds, holds-words}
 use Rattle.layout.specs.Head.{pace-list}

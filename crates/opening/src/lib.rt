@@ -9,6 +9,13 @@ ghost use Rattle.opening.specs.Blank.{blank-table};
 use lent_pace::Turn;
 use model::Settings;
 
+// The words of a new window's head that are not 0, beside clock, settings and stall wait (docs/LAYOUT.md): format, mean, frontier.
+const FORMAT: u64 = 1;
+
+const MEAN: u64 = 262_144;
+
+const FRONTIER: u64 = 1;
+
 // `blank-table`
 fn clear(words: &mut [u64])
     requires { ⌜ length (now words) ≡ 4096 ⌝ }
@@ -24,12 +31,13 @@ fn set_keys(words: &mut [u64], keys: &[u64])
     column::copy_over(&mut words[2816..3072], keys);
 }
 
-// `opened`: format 1, the clock, mean 262,144, frontier 1; settings, keys and the first stall wait; all else is 0.
+// `opened`: format, clock, mean and frontier; settings, keys and the first stall wait; all else is 0, so the count of records, the total and the high
+// waters of blocks and bytes too.
 pub fn open(words: &mut [u64], clock: u64, b: Settings, keys: &[u64])
     requires { ⌜ (length (now words) ≡ 4096) × (length (now keys) ≡ 256) ⌝ }
     ensures { λ _. ⌜ Holds (opened clock b (now (keys .entry))) (now (words .exit)) ⌝ }
 {
-    let counts = [1, 0, clock, 0, 0, 0, 262144, 1];
+    let counts = [FORMAT, 0, clock, 0, 0, 0, MEAN, FRONTIER];
     let old = layout::load_pace(words);
     let p = lent_pace::changed(Turn::Opening, old, b, clock);
     clear(words);

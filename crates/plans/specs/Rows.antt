@@ -1,13 +1,12 @@
 -- Hashes as rows of four words, `[[u64; 4]; n]` in the code. Assumes nothing.
-use mathlib.Core.Path.{_≡_, refl, sym, ap, _∙_}
+use mathlib.Core.Path.{_≡_, refl, ap, _∙_}
 use mathlib.Core.List.{List, [], _∷_, _++_}
-use Prim.Native.Nat.{ℕ, zero, suc, _+_, _-_, _*_, _≤_, _<_}
+use Prim.Native.Nat.{ℕ, zero, suc, _+_, _-_, _*_, _≤_}
 use native.Mathlib.Omega.{arith}
-use lib.ListN.{length, take, drop, getD, replicate}
-use lib.Seq.{drop-cons}
+use lib.ListN.{length, getD, replicate}
 use Rattle.model.specs.Lists.{pad}
 use Rattle.model.specs.Hash.{hash, hashes-in, hashes-words}
-use Rattle.model.specs.Layout.{Table, word, words-at, hedged-words, planned-words}
+use Rattle.model.specs.Layout.{planned-words}
 use Rattle.laws.specs.Tables.{length-hashes}
 use Rattle.model.specs.declared.Hash.{Hash}
 
@@ -44,41 +43,6 @@ hashes-rows n rows = from 0 n
     from i zero = refl
     from i (suc n) = ap (λ (l : List Hash). row-hash (getD rows i []) ∷ l) (from (suc i) n)
 
--- four words of the head
-abbrev pub row-at : ℕ → Table → List ℕ
-row-at k t = word k t ∷ word (k + 1) t ∷ word (k + 2) t ∷ word (k + 3) t ∷ []
-
--- a word and then the next
-next : (l : List ℕ) (k j n : ℕ) → k < length l → suc k ≡ j → take (suc n) (drop k l) ≡ getD l k 0 ∷ take n (drop j l)
-next l k j n h e = ap (take (suc n)) (drop-cons l k 0 h) ∙ ap (λ (i : ℕ). getD l k 0 ∷ take n (drop i l)) e
-
--- four words and then the next
-pub words-four : (k m n : ℕ) (t : Table) → length (t .head) ≡ 512 → k + 4 ≤ 512 → 4 + n ≡ m → words-at k m t ≡ row-at k t ++ words-at (k + 4) n t
-unfolding words-at word
-words-four k m n t long h e =
-    let l = t .head in
-    let four : m ≡ suc (suc (suc (suc n))) = omega arith in
-    ap (λ (i : ℕ). take i (drop k l)) four
-    ∙ next l k (k + 1) (suc (suc (suc n))) (omega arith) (omega arith)
-    ∙ ap (λ (r : List ℕ). getD l k 0 ∷ r) (next l (k + 1) (k + 2) (suc (suc n)) (omega arith) (omega arith)
-    ∙ ap (λ (r : List ℕ). getD l (k + 1) 0 ∷ r) (next l (k + 2) (k + 3) (suc n) (omega arith) (omega arith)
-    ∙ ap (λ (r : List ℕ). getD l (k + 2) 0 ∷ r) (next l (k + 3) (k + 4) n (omega arith) (omega arith))))
-
--- n rows from k on
-abbrev pub rows-at : ℕ → ℕ → Table → List ℕ
-rows-at k zero t = []
-rows-at k (suc n) t = row-at k t ++ rows-at (k + 4) n t
-
-no-words : (k m : ℕ) (t : Table) → m ≡ 0 → [] ≡ words-at k m t
-unfolding words-at
-no-words k m t q = ap (λ (i : ℕ). take i (drop k (t .head))) (sym q)
-
--- are the words from k on
-pub words-rows : (n k m : ℕ) (t : Table) → length (t .head) ≡ 512 → k + 4 * n ≤ 512 → 4 * n ≡ m → rows-at k n t ≡ words-at k m t
-words-rows zero k m t long h e = no-words k m t (omega arith)
-words-rows (suc n) k m t long h e =
-    ap (λ (r : List ℕ). row-at k t ++ r) (words-rows n (k + 4) (4 * n) t long (omega arith) refl) ∙ sym (words-four k m (4 * n) t long (omega arith) (omega arith))
-
 -- ---- rows of which the first n are hashes and the others 0
 
 -- a row of zeros
@@ -113,10 +77,3 @@ unfolding rows-words rows-hashes planned-words pad
 rows-planned n rows h z =
     let e : 4 * (8 - n) ≡ 32 - length (hashes-words (hashes-from 0 n rows)) = omega (arith, length-hashes (hashes-from 0 n rows), length-from 0 n rows) in
     padded n 8 0 rows h (λ j g. z j (omega (arith, g))) ∙ ap (λ (k : ℕ). hashes-words (hashes-from 0 n rows) ++ replicate k 0) e
-
--- and two rows after their number are `hedged-words`
-pub rows-hedged : (n : ℕ) (rows : List (List ℕ)) → n ≤ 2 → ((j : ℕ) → n ≤ j → row-words (getD rows j []) ≡ zero-row) → n ∷ rows-words 2 rows ≡ hedged-words (rows-hashes n rows)
-unfolding rows-words rows-hashes hedged-words pad
-rows-hedged n rows h z =
-    let e : 4 * (2 - n) ≡ 8 - length (hashes-words (hashes-from 0 n rows)) = omega (arith, length-hashes (hashes-from 0 n rows), length-from 0 n rows) in
-    λ i. sym (length-from 0 n rows) i ∷ (padded n 2 0 rows h (λ j g. z j (omega (arith, g))) ∙ ap (λ (k : ℕ). hashes-words (hashes-from 0 n rows) ++ replicate k 0) e) i

@@ -1,20 +1,19 @@
 -- What the code's plan says in the model's words, and the plan case by case. Assumes nothing.
 use mathlib.Core.Path.{_≡_, refl, sym, ap, subst, _∙_}
-use mathlib.Core.Bool.{Bool, true, false, cond, not, _||_, _&&_}
+use mathlib.Core.Bool.{Bool, true, false, cond, not, _||_}
 use mathlib.Core.List.{List, [], _∷_}
 use mathlib.Core.Logic.{inl, inr}
-use Prim.Native.Nat.{ℕ, zero, suc, _-_, _/_, _≤_, _<_}
+use Prim.Native.Nat.{ℕ, suc, _-_, _≤_, _<_}
 use native.Mathlib.Omega.{arith}
-use native.Mathlib.Nat.{not-suc-le-zero, le-of-suc-le-suc}
 use lib.ListN.{length, getD, take, length-take}
-use lib.Dec.{eqb, ltb, leb}
+use lib.Dec.{eqb, leb}
 use borrow.Author.Tests.{lt-ltb, le-ltb, lt-leb, le-leb}
 use Rattle.model.specs.Numbers.{max-height, max-clock, present}
 use Rattle.model.specs.Lists.{any}
 use Rattle.model.specs.Hash.{same}
 use Rattle.model.specs.Records.{lowest, lower}
 use Rattle.model.specs.Window.{Window}
-use Rattle.model.specs.Races.{Planned, no-plan, planned, plan-limit, win-blocks, plan-from, is-missing, is-seat, is-probing, plan-by, prefix-probe-plan, walk, by-height, probe-offered}
+use Rattle.model.specs.Races.{Planned, no-plan, planned, plan-limit, win-blocks, plan-from, is-missing, is-seat, is-probing, prefix-probe-plan, walk, by-height, probe-offered}
 use Rattle.model.specs.declared.Hash.{Hash}
 use Rattle.model.specs.declared.Entry.{Entry}
 use Rattle.model.specs.declared.Front.{Front}
@@ -25,7 +24,6 @@ use Rattle.model.specs.declared.Plan.the-variants.{NoPlan, Planned as PlanOf}
 use Rattle.laws.specs.Numbers.{both}
 use Rattle.laws.specs.Entries.{Each}
 use Rattle.laws.specs.Sound.{InRange}
-use Rattle.laws.specs.Pending.{Ranged}
 use Rattle.prefix_probe.specs.Walks.{hashes-at, Walked}
 use Rattle.probe_plan.specs.declared.Planning.{Planning}
 

@@ -1,12 +1,11 @@
 // 01, module 8: the plan of a prefix probe, of words that hold a window.
 ghost use mathlib.Core.Path.{_≡_};
-ghost use mathlib.Core.Bool.{not, _||_, _&&_};
+ghost use mathlib.Core.Bool.{not};
 ghost use Prim.Native.Nat.{_≤_, _<_};
 ghost use lib.ListN.{length};
 ghost use lib.Dec.{eqb};
 ghost use Rattle.model.specs.Numbers.{min-estimate};
 ghost use Rattle.model.specs.Lists.{any};
-ghost use Rattle.model.specs.Hash.{same};
 ghost use Rattle.model.specs.Layout.{window-of};
 ghost use Rattle.model.specs.Races.{plan-limit, is-missing, is-seat, is-probing, prefix-probe-plan, probe-offered};
 ghost use Rattle.laws.specs.Whole.{Whole};
@@ -165,23 +164,6 @@ pub fn prefix_probe_plan(words: &[u64]) -> Plan
     Plan::Planned(p.owner, p.n as u64, end)
 }
 
-// The hash is among the planned.
-fn is_planned(words: &[u64], h: Hash) -> bool
-    requires { ⌜ Whole (now words) ⌝ }
-    ensures { λ r. ⌜ r ≡ any (λ x. same x h) (window-of (now (words .entry)) .races .planned) ⌝ }
-{
-    let n = state_races::planned_count(words) as usize;
-    let mut i = 0;
-    while i < n {
-        let x = state_races::planned_hash(words, i);
-        if hash::equal(x, h) {
-            return true;
-        }
-        i += 1;
-    }
-    false
-}
-
 // `probe-offered`
 pub fn probe_offered(words: &[u64], source: u64, h: Hash) -> bool
     requires { ⌜ Whole (now words) × (source < 256) ⌝ }
@@ -191,7 +173,7 @@ pub fn probe_offered(words: &[u64], source: u64, h: Hash) -> bool
     if !is_probing(p) {
         return false;
     }
-    if !is_planned(words, h) {
+    if !state_races::is_planned(words, h) {
         return false;
     }
     let s = source as usize;

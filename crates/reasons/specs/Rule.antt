@@ -1,6 +1,5 @@
 -- The table's rule, "all but 1, 4 and 5", proved once: a test that antt computes over the whole table, and the rule at each entry. Assumes nothing.
 use mathlib.Core.Path.{_≡_, refl, ap, _∙_}
-use mathlib.Core.Logic.{inl, inr}
 use mathlib.Core.Bool.{Bool, true, false, _&&_, Bool·beq}
 use mathlib.Core.List.{List, [], _∷_}
 use Prim.Native.Nat.{ℕ, zero, suc, _+_, _≤_, _<_}
@@ -8,8 +7,8 @@ use native.Mathlib.Nat.{le-of-suc-le-suc, not-suc-le-zero, add-zero}
 use native.Mathlib.Omega.{arith}
 use lib.Dec.{eqb}
 use lib.ListN.{length, getD, drop}
-use Rattle.model.specs.Reasons.{lowering, lowers, lowering-rule, lowered}
-use Rattle.laws.specs.Numbers.{both, and-left, and-right, lesser-le-first}
+use Rattle.model.specs.Reasons.{lowering, lowers, lowering-rule}
+use Rattle.laws.specs.Numbers.{and-left, and-right}
 
 -- the test f passes at each entry of the list and its place, counted from i
 abbrev passes : (ℕ → ℕ → Bool) → ℕ → List ℕ → Bool
@@ -52,11 +51,3 @@ from-one k h =
 pub lowers-rule : (r : ℕ) → 1 ≤ r → r ≤ 10 → lowers r ≡ lowering-rule r
 lowers-rule zero p h = absurd (not-suc-le-zero p)
 lowers-rule (suc k) p h = let e : 1 + k ≡ suc k = omega arith in rw e at (from-one k (omega arith))
-
--- no reason raises the frontier
-pub lowered-le : (r height frontier : ℕ) → lowered r height frontier ≤ frontier
-unfolding lowered
-lowered-le r height frontier = elim (both (lowers r)) [
-  | inl t ↦ rw t (lesser-le-first frontier height)
-  | inr t ↦ rw t (omega arith)
-]

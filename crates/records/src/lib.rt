@@ -1,12 +1,12 @@
 // The records in the 4,096 lent words: eight columns of 256 places. A contract speaks of `decode`, which every list of words has: nothing is
 // asked but lengths and indices, and of one in or out that no record stands after the live ones. `count` is how many places are live.
 ghost use mathlib.Core.Path.{_≡_};
-ghost use mathlib.Core.Bool.{_&&_, true, cond};
+ghost use mathlib.Core.Bool.{true, cond};
 ghost use mathlib.Core.List.{[], _∷_, _++_};
 ghost use Prim.Native.Nat.{_-_, _<_, _≤_, suc};
 ghost use lib.ListN.{length, take, drop, getD, replicate};
 ghost use lib.Dec.{eqb};
-ghost use Rattle.model.specs.Hash.{hash, same, less};
+ghost use Rattle.model.specs.Hash.{hash, less};
 ghost use Rattle.model.specs.Lists.{removeAt, inserted};
 ghost use Rattle.model.specs.Records.{lowest, at-height, pending-count-for};
 ghost use Rattle.model.specs.Numbers.{lesser};

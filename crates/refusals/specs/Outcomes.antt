@@ -1,17 +1,14 @@
 -- What a refused call, and an accepted one, answers and leaves: the laws that the public functions' returns name. Assumes nothing.
 use mathlib.Core.Path.{_≡_, refl, sym, ap, subst, _∙_}
-use mathlib.Core.Bool.{Bool, true, false, cond}
-use mathlib.Core.List.{List, [], _∷_, _++_}
-use Prim.Native.Nat.{ℕ, zero, suc, _≤_, _<_}
-use native.Mathlib.Omega.{arith}
+use mathlib.Core.List.{List, [], _++_}
+use Prim.Native.Nat.{ℕ, zero, suc}
 use borrow.Author.Tests.{eqb-true}
 use lib.ListN.{length, drop}
-use Rattle.model.specs.Numbers.{max-clock, read-clock}
 use Rattle.model.specs.Window.{Window, with-clock}
 use Rattle.model.specs.Layout.{encode, window-of, is-window}
 use Rattle.model.specs.Queries.{Query, query-values}
-use Rattle.model.specs.Refusals.{Change, Call, opens, changes, queries, Moment, timeless, at, Checks, checks, query-checks, test, refusal-at, is-long, window-refusal, opening-refusal, refusal}
-use Rattle.model.specs.Perform.{Deed, Answer, refused, says, change, moment-of, changed, does, words-after, gone-after, answer-after, perform}
+use Rattle.model.specs.Refusals.{Change, Call, opens, changes, queries, Checks, checks, query-checks, is-long, window-refusal, opening-refusal, refusal}
+use Rattle.model.specs.Perform.{Answer, refused, says, moment-of, changed, words-after, gone-after, answer-after, perform}
 use Rattle.model.specs.Calls.{opened}
 use Rattle.model.specs.declared.Release.{Release}
 use Rattle.model.specs.declared.Settings.{Settings}

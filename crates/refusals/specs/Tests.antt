@@ -1,15 +1,13 @@
 -- One law for each refusal: the lowest test that fails is the number. Generic over what a call checks. Assumes nothing.
-use mathlib.Core.Path.{_≡_, refl, sym, _∙_}
-use mathlib.Core.Bool.{Bool, true, false, cond}
-use mathlib.Core.List.{List, [], _∷_}
-use Prim.Native.Nat.{ℕ, zero, suc, _≤_, _<_}
-use borrow.Author.Tests.{eq-eqb, ne-eqb, le-leb, lt-leb, eqb-true}
+use mathlib.Core.Path.{_≡_, refl}
+use mathlib.Core.Bool.{true, false}
+use mathlib.Core.List.{List}
+use Prim.Native.Nat.{ℕ, _≤_, _<_}
+use borrow.Author.Tests.{eq-eqb, ne-eqb, le-leb, lt-leb}
 use lib.ListN.{length}
-use lib.Dec.{eqb, leb}
-use Rattle.model.specs.Numbers.{max-clock, clock-ok}
-use Rattle.model.specs.Window.{Window}
+use Rattle.model.specs.Numbers.{max-clock}
 use Rattle.model.specs.Layout.{settings-ok, window-of, is-window}
-use Rattle.model.specs.Refusals.{Moment, timeless, at, Checks, test, keys-ok, moment-ok, report-ok, refusal-at, is-long, window-refusal, opening-refusal}
+use Rattle.model.specs.Refusals.{Checks, keys-ok, moment-ok, report-ok, refusal-at, window-refusal, opening-refusal}
 use Rattle.model.specs.declared.Settings.{Settings}
 
 -- ---- a call or query on a window: 1, 2, 3, 4, 6, and 7 to 9 by its content
@@ -43,20 +41,6 @@ module _ (k : Checks) (ws : List ℕ) (room : ℕ) where
           pub by-content : k .peers ≡ true → k .content (window-of ws) ≡ window-refusal k ws room
           unfolding window-refusal refusal-at
           by-content p = rw (eq-eqb (length ws) 4096 n, v, r, m, p)
-
--- ---- 4, by the clock's bound and by the last accepted one
-
-pub clock-high : (last c : ℕ) → max-clock < c → clock-ok last c ≡ false
-unfolding clock-ok
-clock-high last c h = rw (lt-leb c max-clock h)
-
-pub clock-back : (last c : ℕ) → c ≤ max-clock → c < last → clock-ok last c ≡ false
-unfolding clock-ok
-clock-back last c l h = rw (le-leb c max-clock l, lt-leb last c h)
-
-pub clock-good : (last c : ℕ) → c ≤ max-clock → last ≤ c → clock-ok last c ≡ true
-unfolding clock-ok
-clock-good last c l h = rw (le-leb c max-clock l, le-leb last c h)
 
 -- ---- 3, by the report's length
 

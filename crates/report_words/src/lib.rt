@@ -20,7 +20,7 @@ pub struct Totals {
 }
 
 // A release's nine words.
-fn nine(e: Entry, reason: u64) -> [u64; 9]
+pub fn nine(e: Entry, reason: u64) -> [u64; 9]
     ensures { λ r. ⌜ r ≡ nine e reason ⌝ }
 {
     let h = e.hash;

@@ -11,7 +11,7 @@ ghost use Rattle.model.specs.Seats.{start-reset, body-reset, start-noted, activ
 ghost use Rattle.model.specs.LettingGo.{flagged};
 ghost use Rattle.model.specs.Window.{no-seats};
 ghost use Rattle.model.specs.Layout.{decode};
-ghost use Rattle.laws.specs.Tables.{with-starts, with-bodies, with-keys, with-racers, seat-reset, kept-seats};
+ghost use Rattle.laws.specs.Tables.{with-starts, with-bodies, with-racers, seat-reset, kept-seats};
 ghost use Rattle.records.specs.Places.{stored};
 use records::Oldest;
 
@@ -97,8 +97,8 @@ fn body_reset(left: Oldest, body: u64) -> u64
     }
 }
 
-// `seat-reset`: an entry of the owner, asked at `removed`, has gone, and `left` is the oldest of those left. By `table-reset` it is
-// `reset-owner-queue-start`.
+// `seat-reset`: an entry of the owner, asked at `removed`, has gone, and `left` is the oldest of those left. By `reset-in` of
+// state_queue it is `reset-owner-queue-start`.
 pub fn reset_owner_queue_start(
     words: &mut [u64],
     owner: usize,
@@ -207,13 +207,6 @@ pub fn keep_seats(words: &mut [u64], flags: &[u64])
 {
     keep_flagged(&mut words[2304..2560], flags);
     keep_flagged(&mut words[2560..2816], flags);
-}
-
-pub fn set_keys(words: &mut [u64], keys: &[u64])
-    requires { ⌜ (length (now words) ≡ 4096) × (length (now keys) ≡ 256) ⌝ }
-    ensures { λ _. ⌜ decode (now (words .exit)) ≡ with-keys (now (keys .entry)) (decode (now (words .entry))) ⌝ }
-{
-    column::copy_over(&mut words[2816..3072], keys);
 }
 
 pub fn keep_racers(words: &mut [u64], flags: &[u64])

@@ -121,16 +121,6 @@ pub put-is : (at : ℕ) (e : Entry) (q : Queue) → rising (q .pending) ≡ true
 unfolding put
 put-is at e q r f = ap (λ (es : List Entry). queue (q .total + e .estimate) es (q .starts) (q .bodies)) (sym (free-found (e .hash) (q .pending) at r f .1 e refl))
 
--- marks that say what goes
-pub kept-marks : (goes : Entry → ℕ) (l : List Entry) (ms : List ℕ) → length l ≤ length ms → ((i : ℕ) → i < length l → getD ms i 0 ≡ goes (getD l i blank))
-    → keepBy (take (length l) ms) l ≡ kept goes l
-unfolding kept
-kept-marks goes [] ms h f = refl
-kept-marks goes (e ∷ l) [] h f = absurd (not-suc-le-zero h)
-kept-marks goes (e ∷ l) (m ∷ ms) h f =
-    let rest = kept-marks goes l ms (le-of-suc-le-suc h) (λ i b. f (suc i) (suc-le-suc b)) in
-    λ i. if-kept (f 0 (suc-le-suc zero-le) i) e (rest i)
-
 -- ---- seats
 
 module _ (w : Window) where

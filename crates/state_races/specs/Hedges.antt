@@ -1,16 +1,16 @@
 -- How many hedged fronts and planned hashes there are and which, in words that hold a window; one more hedged front; a probe without its racers.
 -- Assumes nothing.
 use mathlib.Core.Path.{_≡_, refl, sym, ap, _∙_}
-use mathlib.Core.Bool.{true}
+use mathlib.Core.Bool.{Bool, true, false, _||_}
 use mathlib.Core.List.{List, [], _∷_, _++_}
 use Prim.Native.Nat.{ℕ, zero, suc, _+_, _-_, _*_, _≤_, _<_}
 use native.Mathlib.Nat.{not-suc-le-zero, le-of-suc-le-suc}
 use native.Mathlib.Omega.{arith}
 use lib.ListN.{length, getD, take, drop, replicate, length-append, length-take, length-drop}
-use lib.Seq.{getD-drop, getD-take, length-take-le}
-use Rattle.model.specs.Lists.{pad, all}
+use lib.Seq.{getD-drop, getD-take, length-take-le, drop-cons, drop-length}
+use Rattle.model.specs.Lists.{pad, all, any}
 use Rattle.model.specs.Hash.{hash, hashes-in, hashes-words}
-use Rattle.model.specs.Layout.{decode, window-of, read, table, word, words-at, hash-at, is-0, settings-words, stall-words, stuck-words, cold-words, hedged-words, observation-words, probe-words, planned-words, counts-words, small-words, head-words}
+use Rattle.model.specs.Layout.{Table, decode, window-of, read, table, word, words-at, hash-at, is-0, settings-words, stall-words, stuck-words, cold-words, hedged-words, observation-words, probe-words, planned-words, counts-words, small-words, head-words}
 use Rattle.model.specs.Window.{Window, with-probe}
 use Rattle.model.specs.declared.Hash.{Hash}
 use Rattle.model.specs.declared.Probe.{Probe}
@@ -118,6 +118,29 @@ module _ (ws : List ℕ) (n : length ws ≡ 4096) (i : ℕ) where
   pub planned-at : i < length (window-of ws .races .planned) → hash-at (65 + 4 * i) (decode ws) ≡ getD (window-of ws .races .planned) i (hash 0 0 0 0)
   unfolding window-of read
   planned-at h = let b = planned-few h in one-said ws n 65 32 (word 63 (decode ws)) i (65 + 4 * i) (below _ _ h) (omega arith) (omega arith) refl
+
+-- ---- a search from the front
+
+module _ {A : Type 0} (p : A → Bool) where
+  pub any-turn : (l : List A) (i : ℕ) (d : A) (b : Bool) → i < length l → p (getD l i d) ≡ b → any p (drop i l) ≡ b || any p (drop (suc i) l)
+  unfolding any
+  any-turn l i d b h e = ap (any p) (drop-cons l i d h) ∙ ap (λ (x : Bool). x || any p (drop (suc i) l)) e
+
+  pub any-end : (l : List A) → any p (drop (length l) l) ≡ false
+  unfolding any
+  any-end l = ap (any p) (drop-length l)
+
+-- the n hashes of a table's head from word k on
+pub record Lists (k n : ℕ) (hs : List Hash) (t : Table) : Type 0 where
+  pub many : n ≡ length hs
+  pub each : (i : ℕ) → i < length hs → hash-at (k + 4 * i) t ≡ getD hs i (hash 0 0 0 0)
+
+module _ (ws : List ℕ) (n : length ws ≡ 4096) where
+  pub hedged-listed : (m : ℕ) → m ≡ length (window-of ws .races .hedged) → Lists 47 m (window-of ws .races .hedged) (decode ws)
+  hedged-listed m e = record { many = e; each = λ i h. hedged-at ws n i h }
+
+  pub planned-listed : (m : ℕ) → m ≡ length (window-of ws .races .planned) → Lists 65 m (window-of ws .races .planned) (decode ws)
+  planned-listed m e = record { many = e; each = λ i h. planned-at ws n i h }
 
 -- ---- one more hedged front, of which the first is g where there is one
 

@@ -1,18 +1,19 @@
 // Hedged fronts, and the probe with its hashes and racers, in words that hold a window and nothing else. Contracts as in `state`.
 ghost use mathlib.Core.Path.{_≡_};
-ghost use mathlib.Core.List.{_++_, _∷_, []};
-ghost use Prim.Native.Nat.{_<_};
+ghost use mathlib.Core.List.{List, _++_, _∷_, []};
+ghost use Prim.Native.Nat.{_+_, _*_, _≤_, _<_};
 ghost use lib.ListN.{length, getD, set, take};
 ghost use Rattle.model.specs.Numbers.{present};
-ghost use Rattle.model.specs.Lists.{count};
-ghost use Rattle.model.specs.Hash.{hash, hashes-in};
-ghost use Rattle.model.specs.Layout.{window-of, hedged-words};
+ghost use Rattle.model.specs.Lists.{any, count};
+ghost use Rattle.model.specs.Hash.{hash, same, hashes-in};
+ghost use Rattle.model.specs.Layout.{decode, window-of, hedged-words};
 ghost use Rattle.model.specs.Seats.{keep-seats};
 ghost use Rattle.model.specs.LettingGo.{flagged};
 ghost use Rattle.model.specs.Window.{with-hedged, with-probe, without-probe, no-seats};
 ghost use Rattle.laws.specs.Whole.{Whole, Holds};
 ghost use Rattle.states.specs.Fits.{probe-fits};
-ghost use Rattle.state_races.specs.Hedges.{pushed, Plan};
+ghost use Rattle.model.specs.declared.Hash.{Hash};
+ghost use Rattle.state_races.specs.Hedges.{pushed, Plan, Lists};
 use model::Hash;
 use model::Probe;
 
@@ -25,12 +26,29 @@ pub fn hedged_count(words: &[u64]) -> u64
     layout::word_of(words, 46)
 }
 
-pub fn hedged_hash(words: &[u64], i: usize) -> Hash
-    requires { ⌜ (length (now words) ≡ 4096) × (i < length (window-of (now words) .races .hedged)) ⌝ }
-    ensures { λ r. ⌜ r ≡ getD (window-of (now (words .entry)) .races .hedged) i (hash 0 0 0 0) ⌝ }
+// Whether a hash is among the n that the head has from word k on.
+fn is_listed(words: &[u64], k: usize, n: usize, h: Hash) -> bool
+    requires { ⌜ (length (now words) ≡ 4096) × (k + 4 * n ≤ 512) ⌝ }
+    ensures { λ r. ⌜ ((hs : List Hash) → Lists k n hs (decode (now (words .entry))) → r ≡ any (λ x. same x h) hs) ⌝ }
 {
-    let k = 47 + 4 * i;
-    layout::hash_of(words, k)
+    let mut i = 0;
+    while i < n {
+        let a = k + 4 * i;
+        let x = layout::hash_of(words, a);
+        if hash::equal(x, h) {
+            return true;
+        }
+        i += 1;
+    }
+    false
+}
+
+pub fn is_hedged(words: &[u64], h: Hash) -> bool
+    requires { ⌜ Whole (now words) ⌝ }
+    ensures { λ r. ⌜ r ≡ any (λ x. same x h) (window-of (now (words .entry)) .races .hedged) ⌝ }
+{
+    let n = hedged_count(words) as usize;
+    is_listed(words, 47, n, h)
 }
 
 // The words of the hedged fronts with one more.
@@ -76,6 +94,14 @@ pub fn planned_hash(words: &[u64], i: usize) -> Hash
 {
     let k = 65 + 4 * i;
     layout::hash_of(words, k)
+}
+
+pub fn is_planned(words: &[u64], h: Hash) -> bool
+    requires { ⌜ Whole (now words) ⌝ }
+    ensures { λ r. ⌜ r ≡ any (λ x. same x h) (window-of (now (words .entry)) .races .planned) ⌝ }
+{
+    let n = planned_count(words) as usize;
+    is_listed(words, 65, n, h)
 }
 
 // The probe's own words, its hashes and racers as they were.

@@ -1,12 +1,8 @@
 // 01, module 10: the rules of a look, by value.
 ghost use mathlib.Core.Path.{_≡_};
-ghost use mathlib.Core.Bool.{_&&_};
 ghost use Prim.Native.Nat.{_≤_};
-ghost use lib.Dec.{eqb};
 ghost use Rattle.model.specs.Numbers.{max-duration};
-ghost use Rattle.model.specs.Hash.{same};
 ghost use Rattle.model.specs.Window.{Window};
-ghost use Rattle.model.specs.Races.{is-racing};
 ghost use Rattle.model.specs.Observation.{stuck-anew, stuck-still, evicted-by, advance-apply-side-stuck, is-above, blocks, stalled-since, armed-by};
 ghost use Rattle.watch.specs.Answers.{stepped, timeout-answer};
 use model::Blocked;
@@ -28,16 +24,6 @@ pub struct Stepped {
     pub answer: Blocked,
 }
 
-// Whether a number and a hash are the same as others: owner and front of an episode, height and hash of a frontier.
-pub fn same_both(a: u64, b: u64, g: Hash, h: Hash) -> bool
-    ensures { λ r. ⌜ r ≡ (eqb a b && same g h) ⌝ }
-{
-    if a != b {
-        return false;
-    }
-    hash::equal(g, h)
-}
-
 // ---- the stuck frontier
 
 // `stuck-anew`
@@ -57,7 +43,7 @@ fn stuck_still(s: Stuck, height: u64, h: Hash, busy: bool, clock: u64) -> Stuck
     let Stuck::StuckAt(n, x, since) = s else {
         return stuck_anew(height, h, busy, clock);
     };
-    if same_both(n, height, x, h) {
+    if hash::same_both(n, height, x, h) {
         return Stuck::StuckAt(n, x, since);
     }
     stuck_anew(height, h, busy, clock)
@@ -147,7 +133,7 @@ pub fn stalled_since(s: Stall, e: Entry, clock: u64) -> u64
         return clock;
     };
     let h = e.hash;
-    if same_both(owner, e.owner, front, h) {
+    if hash::same_both(owner, e.owner, front, h) {
         return since;
     }
     clock
@@ -174,17 +160,4 @@ pub fn timeout_answer(blamed: Source, hedge: Blocked) -> Blocked
         return hedge;
     };
     Blocked::BlamePendingTimeout(owner)
-}
-
-// ---- the cold front
-
-// `is-racing`
-pub fn is_racing(cold: ColdFront) -> bool
-    ensures { λ r. ⌜ r ≡ is-racing cold ⌝ }
-{
-    match cold {
-        ColdFront::Racing(_, _, _) => true,
-        ColdFront::Waiting(_, _, _) => false,
-        ColdFront::Idle => false,
-    }
 }

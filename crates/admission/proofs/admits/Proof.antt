@@ -1,10 +1,8 @@
 -- `admission::admits` meets its contract. Assumes nothing.
 use borrow.Author.Tests.{not-true, not-false}
-use mathlib.Core.Path.{_≡_, refl, sym, subst, _∙_}
-use mathlib.Core.Bool.{Bool, true, false}
-use Prim.Native.Nat.{ℕ, _≤_, _<_}
-use Rattle.model.specs.Layout.{window-of, is-window}
-use Rattle.refusals.specs.Tests.{refused-1, refused-2, refused-4, refused-6, by-content, clock-high, clock-back, clock-good, report-none}
+use mathlib.Core.Path.{refl}
+use Rattle.model.specs.Layout.{is-window}
+use Rattle.refusals.specs.Tests.{refused-1, refused-2, refused-6, by-content, report-none}
 use Rattle.admission.specs.Admits.{no-window, a-window}
 use borrow.Author.Needs.{needs}
 use Rattle.admission.proofs.admits.Statement.{statement}

@@ -1,11 +1,8 @@
 -- `admission::admits_at` meets its contract. Assumes nothing.
 use borrow.Author.Tests.{not-true, not-false}
-use mathlib.Core.Path.{_≡_, refl, sym, subst, _∙_}
-use mathlib.Core.Bool.{Bool, true, false}
-use Prim.Native.Nat.{ℕ, _≤_, _<_}
-use Rattle.model.specs.Layout.{window-of, is-window}
-use Rattle.refusals.specs.Tests.{refused-1, refused-2, refused-4, refused-6, by-content, clock-high, clock-back, clock-good, report-none}
-use Rattle.admission.specs.Admits.{no-window, a-window}
+use Rattle.model.specs.Layout.{window-of}
+use Rattle.refusals.specs.Tests.{refused-1, refused-2, refused-4, refused-6, by-content, report-none}
+use Rattle.admission.specs.Admits.{no-window, a-window, not-now, in-time}
 use borrow.Author.Needs.{needs}
 use Rattle.admission.proofs.admits_at.Statement.{statement}
 use Rattle.admission.proofs.admits_at.Tie as tie
@@ -24,27 +21,33 @@ returns-2 c =
     let w = c .before .is-window in
     refused-2 _ _ 0 n (no-window ws n (w .result) (w .ensures) (c .if2 .taken))
 
+get-clock-requires : tie.Need-get-clock-requires
+get-clock-requires c κs = c .before .before .if1 .left
+
+clock-fits-requires : tie.Need-clock-fits-requires
+clock-fits-requires c κs = search needs
+
 returns-3 : tie.Need-returns-3
 returns-3 c =
-    let a = c .before .before .before .before .before .args in
-    let ws = a .words .now in
-    let n = c .before .before .before .if1 .left in
-    let w = c .before .before .is-window in
-    let v = a-window ws n (w .result) (w .ensures) (c .before .if2 .left) in
-    refused-4 _ _ 0 n v (report-none 0) (clock-high (window-of ws .clock) (a .clock) (c .if3 .taken))
-
-get-clock-requires : tie.Need-get-clock-requires
-get-clock-requires c κs = c .before .before .before .if1 .left
-
-returns-4 : tie.Need-returns-4
-returns-4 c =
     let a = c .before .before .before .before .before .before .before .args in
     let ws = a .words .now in
     let n = c .before .before .before .before .before .if1 .left in
     let w = c .before .before .before .before .is-window in
     let v = a-window ws n (w .result) (w .ensures) (c .before .before .before .if2 .left) in
-    let last : c .before .get-clock .result ≡ window-of ws .clock = c .before .get-clock .ensures in
-    refused-4 _ _ 0 n v (report-none 0) (clock-back (window-of ws .clock) (a .clock) (c .before .before .if3 .left) (subst (λ (t : ℕ). a .clock < t) last (c .if4 .taken)))
+    let l = c .before .before .get-clock in
+    let k = c .before .clock-fits in
+    refused-4 _ _ 0 n v (report-none 0) (not-now (k .result) (l .result) (window-of ws .clock) (a .clock) (k .ensures) (l .ensures) (c .if3 .taken))
+
+returns-4 : tie.Need-returns-4
+returns-4 c =
+    let a = c .before .before .before .before .before .before .before .before .args in
+    let ws = a .words .now in
+    let n = c .before .before .before .before .before .before .if1 .left in
+    let w = c .before .before .before .before .before .is-window in
+    let v = a-window ws n (w .result) (w .ensures) (c .before .before .before .before .if2 .left) in
+    let l = c .before .before .before .get-clock in
+    let k = c .before .before .clock-fits in
+    refused-6 _ _ 0 n v (report-none 0) (in-time (k .result) (l .result) (window-of ws .clock) (a .clock) (k .ensures) (l .ensures) (c .before .if3 .left)) (not-true (a .peers) (c .if4 .taken))
 
 returns-5 : tie.Need-returns-5
 returns-5 c =
@@ -53,20 +56,9 @@ returns-5 c =
     let n = c .before .before .before .before .before .before .if1 .left in
     let w = c .before .before .before .before .before .is-window in
     let v = a-window ws n (w .result) (w .ensures) (c .before .before .before .before .if2 .left) in
-    let last : c .before .before .get-clock .result ≡ window-of ws .clock = c .before .before .get-clock .ensures in
-    let m = clock-good (window-of ws .clock) (a .clock) (c .before .before .before .if3 .left) (subst (λ (t : ℕ). t ≤ a .clock) last (c .before .if4 .left)) in
-    refused-6 _ _ 0 n v (report-none 0) m (not-true (a .peers) (c .if5 .taken))
-
-returns-6 : tie.Need-returns-6
-returns-6 c =
-    let a = c .before .before .before .before .before .before .before .before .args in
-    let ws = a .words .now in
-    let n = c .before .before .before .before .before .before .if1 .left in
-    let w = c .before .before .before .before .before .is-window in
-    let v = a-window ws n (w .result) (w .ensures) (c .before .before .before .before .if2 .left) in
-    let last : c .before .before .get-clock .result ≡ window-of ws .clock = c .before .before .get-clock .ensures in
-    let m = clock-good (window-of ws .clock) (a .clock) (c .before .before .before .if3 .left) (subst (λ (t : ℕ). t ≤ a .clock) last (c .before .if4 .left)) in
-    by-content _ _ 0 n v (report-none 0) m (not-false (a .peers) (c .if5 .left))
+    let l = c .before .before .before .get-clock in
+    let k = c .before .before .clock-fits in
+    by-content _ _ 0 n v (report-none 0) (in-time (k .result) (l .result) (window-of ws .clock) (a .clock) (k .ensures) (l .ensures) (c .before .if3 .left)) (not-false (a .peers) (c .if4 .left))
 
 pub admits-at-spec : {M : Type 1} → statement M
-admits-at-spec = tie.close (tie.spec returns is-window-requires returns-2 returns-3 get-clock-requires returns-4 returns-5 returns-6)
+admits-at-spec = tie.close (tie.spec returns is-window-requires returns-2 get-clock-requires clock-fits-requires returns-3 returns-4 returns-5)

@@ -1,7 +1,6 @@
 -- `admission::settings_fit` meets its contract. Assumes nothing.
 use Rattle.facts.specs.Flags.{fold}
 use Rattle.admission.specs.Opening.{settings-tests, settings-are}
-use borrow.Author.Needs.{needs}
 use Rattle.admission.proofs.settings_fit.Statement.{statement}
 use Rattle.admission.proofs.settings_fit.Tie as tie
 

@@ -1,6 +1,4 @@
 -- `admission::source_ok` meets its contract. Assumes nothing.
-use mathlib.Core.Path.{sym, ap}
-use Rattle.model.specs.Refusals.{source-ok}
 use borrow.Author.Needs.{needs}
 use Rattle.admission.proofs.source_ok.Statement.{statement}
 use Rattle.admission.proofs.source_ok.Tie as tie

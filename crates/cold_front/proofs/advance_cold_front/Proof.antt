@@ -1,5 +1,5 @@
 -- `cold_front::advance_cold_front` meets its contract. Assumes nothing.
-use mathlib.Core.Path.{_≡_, sym, ap, subst}
+use mathlib.Core.Path.{sym, ap, subst}
 use Rattle.model.specs.Races.{ColdStep}
 use Rattle.model.specs.Layout.{window-of}
 use Rattle.model.specs.Window.{with-cold}

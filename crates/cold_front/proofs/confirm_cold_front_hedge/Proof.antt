@@ -1,7 +1,6 @@
 -- `cold_front::confirm_cold_front_hedge` meets its contract. Assumes nothing.
 use borrow.Author.Tests.{not-true, not-false}
 use mathlib.Core.Path.{sym, _∙_, subst}
-use mathlib.Core.List.{[], _∷_, _++_}
 use Rattle.model.specs.Layout.{window-of}
 use Rattle.model.specs.Window.{Window, with-cold}
 use Rattle.model.specs.declared.ColdFront.the-variants.{Racing}

@@ -2,8 +2,7 @@
 use mathlib.Core.Path.{ap, _∙_}
 use mathlib.Core.List.{List, [], _∷_}
 use Prim.Native.Nat.{ℕ}
-use Rattle.model.specs.Layout.{Table, settings-words}
-use Rattle.model.specs.declared.Pace.{Pace}
+use Rattle.model.specs.Layout.{settings-words}
 use Rattle.laws.specs.Tables.{with-keys, with-words}
 use Rattle.layout.specs.Head.{pace-list}
 use Rattle.opening.specs.Blank.{opened-in, opened-holds}

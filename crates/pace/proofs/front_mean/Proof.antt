@@ -3,7 +3,7 @@ use mathlib.Core.Path.{ap, sym, _∙_}
 use native.Mathlib.Omega.{arith}
 use borrow.Author.Needs.{needs}
 use Rattle.model.specs.Pace.{front-mean-by}
-use Rattle.pace.specs.Ranges.{sample-le}
+use Rattle.laws.specs.PaceKept.{sample-le}
 use Rattle.pace.specs.Stored.{front-mean-some}
 use Rattle.pace.proofs.front_mean.Statement.{statement}
 use Rattle.pace.proofs.front_mean.Tie as tie

@@ -7,7 +7,7 @@ use borrow.Author.Tests.{lt-ltb, le-ltb}
 use borrow.Author.Needs.{needs}
 use Rattle.model.specs.Numbers.{max-front-mean}
 use Rattle.model.specs.Pace.{front-mean-by}
-use Rattle.pace.specs.Ranges.{nearer-le}
+use Rattle.laws.specs.PaceKept.{nearer-le}
 use Rattle.pace.specs.Stored.{mean-by-some}
 use Rattle.pace.proofs.front_mean_by.Statement.{statement}
 use Rattle.pace.proofs.front_mean_by.Tie as tie

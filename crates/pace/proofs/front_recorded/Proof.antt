@@ -3,7 +3,7 @@ use native.Mathlib.Omega.{arith}
 use native.Mathlib.Numerals.{add-one}
 use borrow.Author.Needs.{needs}
 use Rattle.model.specs.Pace.{front-recorded}
-use Rattle.pace.specs.Ranges.{front-mean-le}
+use Rattle.laws.specs.PaceKept.{front-mean-le}
 use Rattle.pace.proofs.front_recorded.Statement.{statement}
 use Rattle.pace.proofs.front_recorded.Tie as tie
 

@@ -3,7 +3,7 @@ use native.Mathlib.Omega.{arith}
 use borrow.Author.Needs.{needs}
 use Rattle.model.specs.Numbers.{max-duration}
 use Rattle.model.specs.Pace.{wait-widened}
-use Rattle.pace.specs.Ranges.{effective-stall-timeout-le}
+use Rattle.pace.specs.Stored.{effective-stall-timeout-le}
 use Rattle.pace.proofs.wait_widened.Statement.{statement}
 use Rattle.pace.proofs.wait_widened.Tie as tie
 

@@ -1,7 +1,7 @@
 -- `probe_plan::has_another` meets its contract. Assumes nothing.
 use mathlib.Core.Path.{_≡_, refl, sym, ap, _∙_}
-use mathlib.Core.Bool.{Bool, true, false, not}
-use Prim.Native.Nat.{ℕ, suc, _-_, _≤_, _<_}
+use mathlib.Core.Bool.{true, false, not}
+use Prim.Native.Nat.{ℕ, _-_, _≤_}
 use native.Mathlib.Omega.{arith}
 use native.Mathlib.Numerals.{add-one}
 use lib.ListN.{length, drop}
@@ -11,7 +11,7 @@ use borrow.Author.Needs.{needs}
 use Rattle.model.specs.Lists.{any}
 use Rattle.model.specs.Layout.{window-of, blank}
 use Rattle.model.specs.declared.Entry.{Entry}
-use Rattle.cold_front.specs.Cold.{any-turn, any-end}
+use Rattle.state_races.specs.Hedges.{any-turn, any-end}
 use Rattle.probe_plan.proofs.has_another.Statement.{statement}
 use Rattle.probe_plan.proofs.has_another.Tie as tie
 

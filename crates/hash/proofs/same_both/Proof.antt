@@ -1,8 +1,8 @@
--- `watch::same_both` meets its contract. Assumes nothing.
+-- `hash::same_both` meets its contract. Assumes nothing.
 use borrow.Author.Tests.{eq-eqb, ne-eqb}
 use borrow.Author.Needs.{needs}
-use Rattle.watch.proofs.same_both.Statement.{statement}
-use Rattle.watch.proofs.same_both.Tie as tie
+use Rattle.hash.proofs.same_both.Statement.{statement}
+use Rattle.hash.proofs.same_both.Tie as tie
 
 returns : tie.Need-returns
 returns c = rw (ne-eqb _ _ (c .if1 .taken))
