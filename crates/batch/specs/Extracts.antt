@@ -16,7 +16,7 @@ use Rattle.laws.specs.Sound.{InRange}
 use Rattle.laws.specs.Batches.{batch}
 use Rattle.laws.specs.Pending.{Ranged}
 use Rattle.laws.specs.Marks.{gone-by, extract-by, keep-by-take, counts-by}
-use Rattle.laws.specs.Whole.{Whole, Holds}
+use Rattle.laws.specs.Whole.{Whole, Holds, holds-whole}
 use Rattle.report_words.specs.Report.{releases-of, length-releases}
 use Rattle.batch.specs.Resets.{Went, went-by}
 use Rattle.state_queue.specs.Steps.{few, live-is, entries-put}
@@ -32,6 +32,26 @@ module _ (P : Entry → Type 0) where
   each-kept (m ∷ ms) [] a = tt
   each-kept (m ∷ ms) (e ∷ l) a = each-one m e (keepBy ms l) (a .0) (each-kept ms l (a .1))
 
+-- ---- where nothing goes, everything stays: no entry, total, frontier or start is another
+
+kept-all : (ms : List ℕ) (l : List Entry) → gone-by ms l ≡ [] → keepBy ms l ≡ l
+kept-all [] l g = refl
+kept-all (m ∷ ms) [] g = refl
+kept-all (zero ∷ ms) (e ∷ l) g = ap (λ (r : List Entry). e ∷ r) (kept-all ms l g)
+kept-all (suc m ∷ ms) (e ∷ l) g = absurd (omega (arith, ap length g))
+
+pub extract-none : (ms : List ℕ) (w : Window) → gone-by ms (w .queue .pending) ≡ [] → extract-by ms w .window ≡ w
+unfolding extract-by total-after frontier-after
+extract-none ms w g =
+    let k = kept-all ms (w .queue .pending) g in
+    λ i. with-frontier (frontier-after (g i) (w .frontier)) (with-queue (queue (total-after (g i) (w .queue .total)) (k i) (w .queue .starts) (w .queue .bodies)) w)
+
+pub batch-none : (now : ℕ) (ms : List ℕ) (w : Window) → gone-by ms (w .queue .pending) ≡ [] → batch now (extract-by ms w) .window ≡ extract-by ms w .window
+unfolding extract-by resets
+batch-none now ms w g = λ i. with-queue (resets now (g i) (extract-by ms w .window .queue)) (extract-by ms w .window)
+
+-- ---- taking out
+
 module _ (ws ms : List ℕ) (h : Whole ws) (k : length ms ≡ 256) where
   abbrev w : Window
   w = window-of ws
@@ -45,6 +65,13 @@ module _ (ws ms : List ℕ) (h : Whole ws) (k : length ms ≡ 256) where
   module _ (n count : ℕ) (core : List ℕ) (c : count ≡ length l) (g : releases-of n core ≡ gone-by ms (take count (decode ws .entries))) where
     pub gone-is : releases-of n core ≡ gone-by ms l
     gone-is = g ∙ ap (gone-by ms) (live-is ws h count c)
+
+    -- the words of a window of which nothing goes, as they are
+    pub none-holds : n ≡ 0 → Holds (extract-by ms w .window) ws
+    unfolding releases-of
+    none-holds z =
+        let g₀ : gone-by ms l ≡ [] = sym gone-is ∙ ap (λ (m : ℕ). releases-of m core) z in
+        subst (λ (v : Window). Holds v ws) (sym (extract-none ms w g₀)) (holds-whole ws h)
 
     -- how many are left
     pub left-is : count - n ≡ length (keepBy (take (length l) ms) l)
@@ -66,6 +93,13 @@ module _ (ws ms : List ℕ) (a : Ranged (window-of ws)) (n : ℕ) (core : List �
   went-ranged = rw g (went-by (InRange max-clock) ms (window-of ws .queue .pending) a)
 
   module _ (ws₁ : List ℕ) (h : Holds (extract-by ms (window-of ws) .window) ws₁) where
+    -- nothing went, so that nothing is reset
+    pub none-reset : (now : ℕ) → n ≡ 0 → Holds (batch now (extract-by ms (window-of ws)) .window) ws₁
+    unfolding releases-of
+    none-reset now z =
+        let g₀ : gone-by ms (window-of ws .queue .pending) ≡ [] = sym g ∙ ap (λ (m : ℕ). releases-of m core) z in
+        subst (λ (v : Window). Holds v ws₁) (sym (batch-none now ms (window-of ws) g₀)) h
+
     pub kept-ranged : Ranged (window-of ws₁)
     unfolding extract-by
     kept-ranged = rw (h .is) (each-kept (InRange max-clock) ms (window-of ws .queue .pending) a)

@@ -85,7 +85,7 @@ pub fn reset_gone(words: &mut [u64], gone: &[u64], n: usize, clock: u64)
 
 // ---- marked records out
 
-// `extract-by`: the records whose mark is not 0 go. Answers how many.
+// `extract-by`: the records whose mark is not 0 go. Answers how many. Where there are none, as in most sweeps, no column is walked (`extract-none`).
 pub fn take_marked(words: &mut [u64], gone: &mut [u64], marks: &[u64]) -> usize
     requires { ⌜ Whole (now words) × ((length (now gone) ≡ 2304) × (length (now marks) ≡ 256)) ⌝ }
     ensures { λ r. ⌜
@@ -96,6 +96,9 @@ pub fn take_marked(words: &mut [u64], gone: &mut [u64], marks: &[u64]) -> usize
 {
     let count = state_queue::pending_count(words);
     let n = report_words::gather(words, count, marks, gone);
+    if n == 0 {
+        return 0;
+    }
     let total = state::get_total(words);
     let frontier = state::get_frontier(words);
     let t = report_words::totals_after(gone, n, total, frontier);
@@ -115,6 +118,9 @@ pub fn let_go(words: &mut [u64], gone: &mut [u64], marks: &[u64], clock: u64) ->
         ⌝ }
 {
     let n = take_marked(words, gone, marks);
+    if n == 0 {
+        return 0;
+    }
     reset_gone(words, gone, n, clock);
     n
 }

@@ -1,9 +1,11 @@
 // Operations on one column of words, in place. A column is a whole slice: the places past the live ones hold 0, so that an operation on all of
 // the column is the operation on its live places, and no contract names how many are live.
 ghost use mathlib.Core.Path.{_≡_};
+ghost use mathlib.Core.Bool.{cond};
 ghost use mathlib.Core.List.{_++_, _∷_, []};
 ghost use Prim.Native.Nat.{_-_, _<_, _≤_};
 ghost use lib.ListN.{length, set, take, replicate};
+ghost use lib.Dec.{eqb};
 ghost use Rattle.model.specs.Lists.{removeAt, inserted, keptBy};
 
 // Takes the word at `at` out: those after it move one place down, and the last place becomes 0.
@@ -59,7 +61,15 @@ pub fn clear_from(col: &mut [u64], from: usize)
     }
 }
 
-// Keeps the words whose mark is 0, in order, from the first place on, and puts 0 in the places that are left.
+// 1 where a word's mark is 0, so that it stays, else 0.
+fn places_on(mark: u64) -> usize
+    ensures { λ r. ⌜ r ≡ cond (eqb mark 0) 1 0 ⌝ }
+{
+    if mark == 0 { 1 } else { 0 }
+}
+
+// Keeps the words whose mark is 0, in order, from the first place on, and puts 0 in the places that are left. Each word is copied, and the place
+// moves on only if it stays: no branch, which a mix of marks would mispredict.
 pub fn keep_unmarked(col: &mut [u64], marks: &[u64])
     requires { ⌜ length (now marks) ≡ length (now col) ⌝ }
     ensures { λ _. ⌜ now (col .exit) ≡ keptBy (now (marks .entry)) 0 (now (col .entry)) ⌝ }
@@ -67,13 +77,10 @@ pub fn keep_unmarked(col: &mut [u64], marks: &[u64])
     let mut i = 0;
     let mut j = 0;
     while i < col.len() {
-        if marks[i] == 0 {
-            col[j] = col[i];
-            i += 1;
-            j += 1;
-        } else {
-            i += 1;
-        }
+        col[j] = col[i];
+        let s = places_on(marks[i]);
+        j += s;
+        i += 1;
     }
     clear_from(col, j);
 }

@@ -24,10 +24,15 @@ use Rattle.laws.specs.Sound.{InRange, Sound}
 use Rattle.laws.specs.Whole.{Whole, words-shaped}
 use Rattle.laws.specs.Rows.{live-at, word-at}
 use Rattle.state_queue.specs.Steps.{live-is}
+use Rattle.time.specs.Limit.{expiry-limit}
 
 -- the entry's owner is expired, by the starts of the seats
 abbrev pub late : ℕ → ℕ → List ℕ → Entry → Bool
 late now timeout starts e = expired now timeout (getD starts (e .owner) 0)
+
+-- the same, of whatever moment and timeout the limit is of
+abbrev pub LateBy : ℕ → List ℕ → Entry → Bool → Type 0
+LateBy limit starts e r = (now timeout : ℕ) → limit ≡ expiry-limit now timeout → r ≡ late now timeout starts e
 
 -- the owners of the first n records are seats
 abbrev pub Seated : ℕ → List ℕ → Type 0

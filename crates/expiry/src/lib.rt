@@ -1,4 +1,5 @@
-// Owner timeout and expiry in words that hold a window, and the lowest entry of an expired owner. The timeout is worked out once a scan.
+// Owner timeout and expiry in words that hold a window, and the lowest entry of an expired owner. The timeout is worked out once a scan,
+// and with it the latest start that is expired.
 ghost use mathlib.Core.Path.{_≡_};
 ghost use Prim.Native.Nat.{_+_, _<_, _≤_};
 ghost use lib.ListN.{length, getD, take, drop};
@@ -11,7 +12,7 @@ ghost use Rattle.model.specs.Layout.{decode, entry-at, window-of};
 ghost use Rattle.laws.specs.Sound.{Sound};
 ghost use Rattle.laws.specs.Whole.{Whole};
 ghost use Rattle.records.specs.Places.{front-at};
-ghost use Rattle.expiry.specs.Late.{late, Seated};
+ghost use Rattle.expiry.specs.Late.{late, LateBy, Seated};
 use model::Front;
 
 // `effective-owner-timeout` by the window's own active count.
@@ -34,14 +35,14 @@ pub fn owner_expired(words: &[u64], owner: usize, clock: u64) -> bool
     time::expired(clock, timeout, start)
 }
 
-// `late`: whether the owner of the record at i is expired.
-fn is_late(words: &[u64], i: usize, timeout: u64, clock: u64) -> bool
-    requires { ⌜ (length (now words) ≡ 4096) × (i < 256) × (getD (now words) (i + 1024) 0 < 256) × (clock ≤ max-clock) ⌝ }
-    ensures { λ r. ⌜ r ≡ late clock timeout (decode (now (words .entry)) .starts) (entry-at (drop i (now (words .entry)))) ⌝ }
+// `late`, by the limit of a moment and a timeout: whether the owner of the record at i is expired.
+fn is_late(words: &[u64], i: usize, limit: u64) -> bool
+    requires { ⌜ (length (now words) ≡ 4096) × (i < 256) × (getD (now words) (i + 1024) 0 < 256) ⌝ }
+    ensures { λ r. ⌜ LateBy limit (decode (now (words .entry)) .starts) (entry-at (drop i (now (words .entry)))) r ⌝ }
 {
     let owner = words[i + 1024] as usize;
     let start = seats::start_of(words, owner);
-    time::expired(clock, timeout, start)
+    time::reached(limit, start)
 }
 
 // The place of the lowest record of an expired owner, the first among equals; `count` where there is none. From the last record to the first.
@@ -49,6 +50,7 @@ fn lowest_late(words: &[u64], count: usize, timeout: u64, clock: u64) -> usize
     requires { ⌜ (length (now words) ≡ 4096) × (count ≤ 256) × (clock ≤ max-clock) × Seated count (now words) ⌝ }
     ensures { λ r. ⌜ lowest (select (late clock timeout (decode (now (words .entry)) .starts)) (take count (decode (now (words .entry)) .entries))) ≡ front-at count r (decode (now (words .entry)) .entries) ⌝ }
 {
+    let limit = time::expiry_limit(clock, timeout);
     let mut best = count;
     let mut low = 0xFFFF_FFFF_FFFF_FFFF;
     let mut i = count;
@@ -56,7 +58,7 @@ fn lowest_late(words: &[u64], count: usize, timeout: u64, clock: u64) -> usize
         i -= 1;
         let g = words[i + 1536];
         if g <= low {
-            if is_late(words, i, timeout, clock) {
+            if is_late(words, i, limit) {
                 best = i;
                 low = g;
             }

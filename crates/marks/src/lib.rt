@@ -133,6 +133,7 @@ pub fn forecast_of(words: &[u64], count: usize, clock: u64, timeout: u64) -> For
     requires { ⌜ (length (now words) ≡ 4096) × ((count ≡ length (window-of (now words) .queue .pending)) × ((timeout ≡ effective-owner-timeout (active (window-of (now words))) (window-of (now words))) × (Ranged (window-of (now words)) × (clock ≤ max-clock)))) ⌝ }
     ensures { λ r. ⌜ (r .blocks ≡ forecast-blocks clock (window-of (now (words .entry)))) × (r .bytes ≡ forecast-bytes clock (window-of (now (words .entry)))) ⌝ }
 {
+    let limit = time::expiry_limit(clock, timeout);
     let mut f = Forecast {
         blocks: 0,
         bytes: 0,
@@ -142,7 +143,7 @@ pub fn forecast_of(words: &[u64], count: usize, clock: u64, timeout: u64) -> For
         i -= 1;
         let o = words[i + 1024];
         let owner = o as usize;
-        let is = time::expired(clock, timeout, words[2304 + owner]);
+        let is = time::reached(limit, words[2304 + owner]);
         f = counted(f, is, words[i + 1792]);
     }
     f

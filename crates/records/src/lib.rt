@@ -15,6 +15,7 @@ ghost use Rattle.model.specs.Pace.{was-front};
 ghost use Rattle.model.specs.Layout.{decode, entry-at, field, blank};
 ghost use Rattle.laws.specs.Tables.{removed, put-in, kept-rows};
 ghost use Rattle.records.specs.Places.{Parts, Finds, front-at, stored};
+ghost use Rattle.records.specs.Cleared.{all-marked};
 use model::Entry;
 use model::Front;
 use model::Hash;
@@ -129,6 +130,20 @@ pub fn keep(words: &mut [u64], marks: &[u64])
         let a = 256 * k;
         let e = a + 256;
         column::keep_unmarked(&mut words[a..e], marks);
+        k += 1;
+    }
+}
+
+// `kept-rows` where every mark is set: no record stays.
+pub fn clear(words: &mut [u64])
+    requires { ⌜ length (now words) ≡ 4096 ⌝ }
+    ensures { λ _. ⌜ decode (now (words .exit)) ≡ kept-rows all-marked (decode (now (words .entry))) ⌝ }
+{
+    let mut k = 0;
+    while k < COLUMNS {
+        let a = 256 * k;
+        let e = a + 256;
+        column::clear_from(&mut words[a..e], 0);
         k += 1;
     }
 }

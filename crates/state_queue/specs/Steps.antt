@@ -25,6 +25,12 @@ use Rattle.laws.specs.Whole.{Shaped, Whole, Holds, lifted, words-shaped}
 use Rattle.records.specs.Places.{Finds, here-found, free-found}
 use Rattle.records.specs.declared.Place.the-variants.{Here, Free}
 use Rattle.laws.specs.Tables.{seat-reset, kept-seats}
+use Rattle.laws.specs.Marks.{keep-by-take}
+use Rattle.records.specs.Cleared.{all-marked, length-all, none-stays}
+
+empty : (l : List Entry) → length l ≡ 0 → l ≡ []
+empty [] e = refl
+empty (x ∷ l) e = absurd (omega (arith, e))
 
 -- ---- the entries
 
@@ -193,6 +199,17 @@ module _ (ws : List ℕ) (h : Whole ws) where
       let w = window-of ws in
       let s = words-shaped ws (h .long) in
       put-so ws₁ ws₂ ws₃ (kept-rows ms) n total _ d₁ d₂ d₃ l (some-in w s ms n total k c) (some-few w s (take (length (w .queue .pending)) ms))
+
+  -- the same where none is left
+  pub none-over : (ws₁ ws₂ ws₃ ms : List ℕ) (n total : ℕ) → n ≡ 0 → n ≡ length (keepBy (take (length (window-of ws .queue .pending)) ms) (window-of ws .queue .pending))
+      → decode ws₁ ≡ kept-rows all-marked (decode ws) → decode ws₂ ≡ with-words 1 (0 ∷ []) (decode ws₁) → decode ws₃ ≡ with-words 3 (total ∷ []) (decode ws₂) → length ws₃ ≡ length ws
+      → Holds (entries-put total (keepBy (take (length (window-of ws .queue .pending)) ms) (window-of ws .queue .pending)) (window-of ws)) ws₃
+  none-over ws₁ ws₂ ws₃ ms n total z c d₁ d₂ d₃ l =
+      let es = window-of ws .queue .pending in
+      let gone : keepBy (take (length es) all-marked) es ≡ [] = keep-by-take all-marked es (omega (arith, few ws h, length-all)) ∙ none-stays es (few ws h) in
+      let none : keepBy (take (length es) ms) es ≡ [] = empty (keepBy (take (length es) ms) es) (sym c ∙ z) in
+      subst (λ (x : List Entry). Holds (entries-put total x (window-of ws)) ws₃) (gone ∙ sym none)
+      (left-over ws₁ ws₂ ws₃ all-marked 0 total length-all (sym (ap length gone)) d₁ d₂ d₃ l)
 
   -- seats: starts and last bodies replaced
   pub seated : (ws₁ : List ℕ) (f : Table → Table) (ss bs : List ℕ) → length ws₁ ≡ length ws → decode ws₁ ≡ f (decode ws)

@@ -116,11 +116,18 @@ pub fn put_at(words: &mut [u64], at: usize, e: Entry)
     layout::set_word(words, 3, more);
 }
 
-// The entries whose mark is 0, which are `count`, stay. By `kept-marks` they are those that `kept` keeps.
+// The entries whose mark is 0, which are `count`, stay. By `kept-marks` they are those that `kept` keeps. Where none stays, as where a sweep takes all,
+// no mark is read.
 pub fn keep_entries(words: &mut [u64], marks: &[u64], count: u64, total: u64)
     requires { ⌜ Whole (now words) × ((length (now marks) ≡ 256) × (count ≡ length (keepBy (take (length (window-of (now words) .queue .pending)) (now marks)) (window-of (now words) .queue .pending)))) ⌝ }
     ensures { λ _. ⌜ Holds (entries-put total (keepBy (take (length (window-of (now (words .entry)) .queue .pending)) (now (marks .entry))) (window-of (now (words .entry)) .queue .pending)) (window-of (now (words .entry)))) (now (words .exit)) ⌝ }
 {
+    if count == 0 {
+        records::clear(words);
+        layout::set_word(words, 1, 0);
+        layout::set_word(words, 3, total);
+        return;
+    }
     records::keep(words, marks);
     layout::set_word(words, 1, count);
     layout::set_word(words, 3, total);

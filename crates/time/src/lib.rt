@@ -3,6 +3,7 @@ ghost use mathlib.Core.Path.{_≡_};
 ghost use Prim.Native.Nat.{suc, _≤_};
 ghost use Rattle.model.specs.Numbers.{max-clock, max-duration, max-seat};
 ghost use Rattle.model.specs.Time.{owner-timeout, expired};
+ghost use Rattle.time.specs.Limit.{expiry-limit, Reached};
 
 // BLOCK_DOWNLOAD_TIMEOUT_BASE. BLOCK_DOWNLOAD_TIMEOUT_PER_PEER is 1, so the other seats count as they are.
 const TIMEOUT_BASE: u64 = 2;
@@ -25,4 +26,22 @@ pub fn expired(now: u64, timeout: u64, start: u64) -> bool
         return false;
     }
     timeout <= numbers::age(now, start)
+}
+
+// `expiry-limit`: the latest stored start that is expired. A scan over many starts works it out once, and asks `reached` of each.
+pub fn expiry_limit(now: u64, timeout: u64) -> u64
+    requires { ⌜ now ≤ max-clock ⌝ }
+    ensures { λ r. ⌜ r ≡ expiry-limit now timeout ⌝ }
+{
+    if timeout == 0 {
+        return 0xFFFF_FFFF_FFFF_FFFF;
+    }
+    numbers::minus(now + 1, timeout)
+}
+
+// `expired`, by the limit of a moment and a timeout.
+pub fn reached(limit: u64, start: u64) -> bool
+    ensures { λ r. ⌜ Reached limit start r ⌝ }
+{
+    (start != 0) & (start <= limit)
 }

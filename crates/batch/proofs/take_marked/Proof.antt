@@ -4,7 +4,7 @@ use Prim.Native.Nat.{ℕ, _-_}
 use Rattle.model.specs.LettingGo.{total-after, frontier-after}
 use Rattle.laws.specs.Marks.{extract-by}
 use Rattle.report_words.specs.Report.{releases-of}
-use Rattle.batch.specs.Extracts.{gone-is, left-is, extract-holds}
+use Rattle.batch.specs.Extracts.{gone-is, none-holds, left-is, extract-holds}
 use borrow.Author.Needs.{needs}
 use native.Mathlib.Omega.{arith}
 use Rattle.batch.proofs.take_marked.Statement.{statement}
@@ -25,6 +25,23 @@ pending-count-requires c κs = search needs
 gather-requires : tie.Need-gather-requires
 gather-requires c κs = search needs
 
+same-length : tie.Need-same-length
+same-length c = search needs
+
+same-length-2 : tie.Need-same-length-2
+same-length-2 c = search needs
+
+-- nothing is marked
+returns : tie.Need-returns
+unfolding extract-by
+returns c =
+    let a = c .before .before .before .before .before .before .before .before .before .before .before .args in
+    let p = c .before .before .before .before .before .before .before .before .before .before .before .pre in
+    let g = c .before .before .before .gather in
+    let n = c .before .before .before .before .before .before .pending-count in
+    let z = c .if1 .taken in
+    (omega arith, none-holds (a .words .now) (a .marks .now) (p .0) (p .1 .1) (g .result) (n .result) (g .last .1 .1 .1 .0) (n .ensures .0) (g .ensures .1) (omega (arith, z)), rw (← z) (gone-is (a .words .now) (a .marks .now) (p .0) (p .1 .1) (g .result) (n .result) (g .last .1 .1 .1 .0) (n .ensures .0) (g .ensures .1)))
+
 get-total-requires : tie.Need-get-total-requires
 get-total-requires c κs = search needs
 
@@ -39,30 +56,35 @@ sub-left c = search needs
 
 keep-entries-requires : tie.Need-keep-entries-requires
 keep-entries-requires c κs =
-    let a = c .before .before .before .before .before .before .before .before .before .before .before .before .before .before .before .before .before .args in
-    let p = c .before .before .before .before .before .before .before .before .before .before .before .before .before .before .before .before .before .pre in
-    (p .0, (p .1 .1, left-is (a .words .now) (a .marks .now) (p .0) (p .1 .1) (c .before .before .before .before .before .before .before .before .before .gather .result) (c .before .before .before .before .before .before .before .before .before .before .before .before .pending-count .result) (c .before .before .before .before .before .before .before .before .before .gather .last .1 .1 .1 .0) (c .before .before .before .before .before .before .before .before .before .before .before .before .pending-count .ensures .0) (c .before .before .before .before .before .before .before .before .before .gather .ensures .1)))
+    let a = c .before .before .before .before .before .before .before .before .before .before .before .before .before .before .before .before .before .before .args in
+    let p = c .before .before .before .before .before .before .before .before .before .before .before .before .before .before .before .before .before .before .pre in
+    let g = c .before .before .before .before .before .before .before .before .before .before .gather in
+    let n = c .before .before .before .before .before .before .before .before .before .before .before .before .before .pending-count in
+    (p .0, (p .1 .1, left-is (a .words .now) (a .marks .now) (p .0) (p .1 .1) (g .result) (n .result) (g .last .1 .1 .1 .0) (n .ensures .0) (g .ensures .1)))
 
 set-frontier-requires : tie.Need-set-frontier-requires
 set-frontier-requires c κs = search needs
 
-same-length : tie.Need-same-length
-same-length c = search needs
+same-length-3 : tie.Need-same-length-3
+same-length-3 c = search needs
 
-same-length-2 : tie.Need-same-length-2
-same-length-2 c = search needs
+same-length-4 : tie.Need-same-length-4
+same-length-4 c = search needs
 
-returns : tie.Need-returns
+returns-2 : tie.Need-returns-2
 unfolding extract-by
-returns c =
-    let a = c .before .before .before .before .before .before .before .before .before .before .before .before .before .before .before .before .before .before .before .before .before .before .before .before .args in
-    let p = c .before .before .before .before .before .before .before .before .before .before .before .before .before .before .before .before .before .before .before .before .before .before .before .before .pre in
-    let n = c .before .before .before .before .before .before .before .before .before .before .before .before .before .before .before .before .gather .result in
-    let core = c .before .before .before .before .before .before .before .before .before .before .before .before .before .before .before .before .gather .last .1 .1 .1 .0 in
-    let count = c .before .before .before .before .before .before .before .before .before .before .before .before .before .before .before .before .before .before .before .pending-count .result in
-    let t = c .before .before .before .before .before .before .before .before .totals-after .ensures .0 ∙ ap (total-after (releases-of n core)) (c .before .before .before .before .before .before .before .before .before .before .before .before .get-total .ensures) in
-    let f = c .before .before .before .before .before .before .before .before .totals-after .ensures .1 ∙ ap (frontier-after (releases-of n core)) (c .before .before .before .before .before .before .before .before .before .before .get-frontier .ensures) in
-    (omega (arith, c .before .before .before .before .before .before .before .before .before .before .before .before .before .before .before .before .gather .ensures .0, c .before .before .before .before .before .before .before .before .before .before .before .before .before .before .before .before .before .before .before .pending-count .ensures .1), extract-holds (a .words .now) (a .marks .now) (p .0) (p .1 .1) n count core (c .before .before .before .before .before .before .before .before .before .before .before .before .before .before .before .before .before .before .before .pending-count .ensures .0) (c .before .before .before .before .before .before .before .before .before .before .before .before .before .before .before .before .gather .ensures .1) (c .before .before .before .before .before .before .before .before .totals-after .result .total) (c .before .before .before .before .before .before .before .before .totals-after .result .frontier) (c .before .before .before .before .before .before .keep-entries .last .0) (c .before .before .set-frontier .last .0) t f (c .before .before .before .before .before .before .keep-entries .ensures) (c .before .before .set-frontier .ensures), gone-is (a .words .now) (a .marks .now) (p .0) (p .1 .1) n count core (c .before .before .before .before .before .before .before .before .before .before .before .before .before .before .before .before .before .before .before .pending-count .ensures .0) (c .before .before .before .before .before .before .before .before .before .before .before .before .before .before .before .before .gather .ensures .1))
+returns-2 c =
+    let a = c .before .before .before .before .before .before .before .before .before .before .before .before .before .before .before .before .before .before .before .before .before .before .before .before .before .args in
+    let p = c .before .before .before .before .before .before .before .before .before .before .before .before .before .before .before .before .before .before .before .before .before .before .before .before .before .pre in
+    let g = c .before .before .before .before .before .before .before .before .before .before .before .before .before .before .before .before .before .gather in
+    let n = c .before .before .before .before .before .before .before .before .before .before .before .before .before .before .before .before .before .before .before .before .pending-count in
+    let s = c .before .before .before .before .before .before .before .before .totals-after in
+    let k = c .before .before .before .before .before .before .keep-entries in
+    let x = c .before .before .set-frontier in
+    let core = g .last .1 .1 .1 .0 in
+    let t = s .ensures .0 ∙ ap (total-after (releases-of (g .result) core)) (c .before .before .before .before .before .before .before .before .before .before .before .before .get-total .ensures) in
+    let f = s .ensures .1 ∙ ap (frontier-after (releases-of (g .result) core)) (c .before .before .before .before .before .before .before .before .before .before .get-frontier .ensures) in
+    (omega (arith, g .ensures .0, n .ensures .1), extract-holds (a .words .now) (a .marks .now) (p .0) (p .1 .1) (g .result) (n .result) core (n .ensures .0) (g .ensures .1) (s .result .total) (s .result .frontier) (k .last .0) (x .last .0) t f (k .ensures) (x .ensures), gone-is (a .words .now) (a .marks .now) (p .0) (p .1 .1) (g .result) (n .result) core (n .ensures .0) (g .ensures .1))
 
 pub take-marked-spec : {M : Type 1} → statement M
 take-marked-spec =
@@ -70,12 +92,15 @@ take-marked-spec =
     (tie.spec
     pending-count-requires
     gather-requires
+    same-length
+    same-length-2
+    returns
     get-total-requires
     get-frontier-requires
     totals-after-requires
     sub-left
     keep-entries-requires
     set-frontier-requires
-    same-length
-    same-length-2
-    returns)
+    same-length-3
+    same-length-4
+    returns-2)

@@ -22,14 +22,14 @@ shared-slice-read-owner c = search needs
 start-of-requires : tie.Need-start-of-requires
 start-of-requires c κs = search needs
 
-expired-requires : tie.Need-expired-requires
-expired-requires c κs = search needs
+reached-requires : tie.Need-reached-requires
+reached-requires c κs = search needs
 
 returns : tie.Need-returns
-returns c =
+returns c clock timeout e =
     let a = c .before .before .before .before .args in
-    c .expired .ensures ∙ ap (expired (a .clock) (a .timeout)) (c .before .start-of .ensures)
-    ∙ ap (λ (o : ℕ). expired (a .clock) (a .timeout) (getD (decode (a .words .now) .starts) o 0)) (sym (word-at (a .i) (a .words .now) 4 (omega arith)))
+    c .reached .ensures clock timeout e ∙ ap (expired clock timeout) (c .before .start-of .ensures)
+    ∙ ap (λ (o : ℕ). expired clock timeout (getD (decode (a .words .now) .starts) o 0)) (sym (word-at (a .i) (a .words .now) 4 (omega arith)))
 
 pub is-late-spec : {M : Type 1} → statement M
 is-late-spec =
@@ -39,5 +39,5 @@ is-late-spec =
     mul-owner
     shared-slice-read-owner
     start-of-requires
-    expired-requires
+    reached-requires
     returns)

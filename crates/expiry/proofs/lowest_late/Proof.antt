@@ -19,6 +19,8 @@ use Rattle.records.specs.Places.{front-at}
 use Rattle.expiry.specs.Late.{late}
 use Rattle.expiry.proofs.lowest_late.Statement.{statement}
 use Rattle.expiry.proofs.lowest_late.Tie as tie
+use Rattle.time.proofs.expiry_limit.Reads as expiry-limit-reads
+use Rattle.expiry.proofs.is_late.Reads as is-late-reads
 
 -- the lowest from i on that p holds of
 abbrev from : (Entry → Bool) → List ℕ → ℕ → ℕ → Front
@@ -71,15 +73,18 @@ done p ws m best low i z k (none a b f) = rw (le-ltb best m (omega (arith, a))) 
 done p ws m best low i z k (some a f g) = rw (lt-ltb best m a) (ap (from p ws m) (sym z) ∙ f ∙ ap At (sym (rows-at 256 best ws (omega arith))))
 
 abbrev Inv-loop : tie.InvT-loop
-Inv-loop words count timeout clock best₀ low₀ i₀ best low i = (i ≤ count) × Lowest (late clock timeout (decode words .starts)) words count best low i
+Inv-loop words count timeout clock limit best₀ low₀ i₀ best low i = (i ≤ count) × Lowest (late clock timeout (decode words .starts)) words count best low i
 
 abbrev μ-loop : tie.MeasureT-loop
-μ-loop words count timeout clock best₀ low₀ i₀ best low i = i
+μ-loop words count timeout clock limit best₀ low₀ i₀ best low i = i
+
+expiry-limit-requires : tie.Need-expiry-limit-requires Inv-loop μ-loop
+expiry-limit-requires c κs = c .before .pre .2
 
 loop-holds : tie.Need-loop-holds Inv-loop μ-loop
 unfolding lowest select
 loop-holds c =
-    let a = c .before .args in
+    let a = c .before .before .args in
     let ws = a .words .now in
     (omega arith, none refl refl (ap (λ (l : List Entry). lowest (select (late (a .clock) (a .timeout) (decode ws .starts)) l)) (live-end (a .count) ws (omega arith))))
 
@@ -98,8 +103,8 @@ shared-slice-read-g c = omega arith
 is-late-requires : tie.Need-is-late-requires Inv-loop μ-loop
 is-late-requires c κs =
     let at-loop = c .before .before .before in
-    let start = at-loop .before .before in
-    (start .pre .0, omega arith, start .pre .3 (at-loop .loop .i - 1) (omega arith), start .pre .2)
+    let start = at-loop .before .before .before in
+    (start .pre .0, omega arith, start .pre .3 (at-loop .loop .i - 1) (omega arith))
 
 loop-less : tie.Need-loop-less Inv-loop μ-loop
 loop-less c = omega arith
@@ -107,10 +112,11 @@ loop-less c = omega arith
 loop-again : tie.Need-loop-again Inv-loop μ-loop
 loop-again c =
     let at-loop = c .before .before .before .before .before in
-    let a = at-loop .before .before .args in
+    let a = at-loop .before .before .before .args in
+    let limit = at-loop .before .expiry-limit .ensures in
     let l = at-loop .loop in
     let p = late (a .clock) (a .timeout) (decode (a .words .now) .starts) in
-    (omega arith, down p (a .words .now) (a .count) (l .i) (l .i - 1) (omega arith) (omega arith) (omega arith) (l .best) (l .low) (omega (arith, c .before .before .if1 .taken)) (sym (c .before .is-late .ensures) ∙ c .if2 .taken) (l .inv .1))
+    (omega arith, down p (a .words .now) (a .count) (l .i) (l .i - 1) (omega arith) (omega arith) (omega arith) (l .best) (l .low) (omega (arith, c .before .before .if1 .taken)) (sym (c .before .is-late .ensures (a .clock) (a .timeout) limit) ∙ c .if2 .taken) (l .inv .1))
 
 loop-less-2 : tie.Need-loop-less-2 Inv-loop μ-loop
 loop-less-2 c = omega arith
@@ -118,10 +124,11 @@ loop-less-2 c = omega arith
 loop-again-2 : tie.Need-loop-again-2 Inv-loop μ-loop
 loop-again-2 c =
     let at-loop = c .before .before .before .before .before in
-    let a = at-loop .before .before .args in
+    let a = at-loop .before .before .before .args in
+    let limit = at-loop .before .expiry-limit .ensures in
     let l = at-loop .loop in
     let p = late (a .clock) (a .timeout) (decode (a .words .now) .starts) in
-    (omega arith, passes p (a .words .now) (a .count) (l .i) (l .i - 1) (omega arith) (omega arith) (omega arith) (l .best) (l .low) (sym (c .before .is-late .ensures) ∙ c .if2 .left) (l .inv .1))
+    (omega arith, passes p (a .words .now) (a .count) (l .i) (l .i - 1) (omega arith) (omega arith) (omega arith) (l .best) (l .low) (sym (c .before .is-late .ensures (a .clock) (a .timeout) limit) ∙ c .if2 .left) (l .inv .1))
 
 loop-less-3 : tie.Need-loop-less-3 Inv-loop μ-loop
 loop-less-3 c = omega arith
@@ -129,7 +136,7 @@ loop-less-3 c = omega arith
 loop-again-3 : tie.Need-loop-again-3 Inv-loop μ-loop
 loop-again-3 c =
     let at-loop = c .before .before .before in
-    let a = at-loop .before .before .args in
+    let a = at-loop .before .before .before .args in
     let l = at-loop .loop in
     let p = late (a .clock) (a .timeout) (decode (a .words .now) .starts) in
     let fits = c .before .shared-slice-known2 .given (l .i - 1 + 1536) in
@@ -139,7 +146,7 @@ returns : tie.Need-returns Inv-loop μ-loop
 unfolding decode
 returns c =
     let l = c .before .loop in
-    let a = c .before .before .before .args in
+    let a = c .before .before .before .before .args in
     done (late (a .clock) (a .timeout) (decode (a .words .now) .starts)) (a .words .now) (a .count) (l .best) (l .low) (l .i) (omega arith) (omega arith) (l .inv .1)
 
 pub lowest-late-spec : {M : Type 1} → statement M
@@ -148,6 +155,7 @@ lowest-late-spec =
     (tie.spec
     Inv-loop
     μ-loop
+    expiry-limit-requires
     loop-holds
     sub-i
     add-g

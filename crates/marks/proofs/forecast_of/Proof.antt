@@ -15,12 +15,14 @@ use Rattle.model.specs.declared.Entry.{Entry}
 use Rattle.laws.specs.Numbers.{both}
 use Rattle.laws.specs.Pending.{Ranged, pending-few, pending-cons, owner-at, estimate-at, seat-at, estimate-le, start-word}
 use native.Mathlib.Omega.{arith}
+use borrow.Author.Needs.{needs}
 use Rattle.marks.proofs.forecast_of.Statement.{statement}
 use Rattle.marks.proofs.forecast_of.Tie as tie
 use Rattle.marks.proofs.forecast_of.Reads as reads
 use Rattle.marks.proofs.forecast_of.Lts as lts
 use Rattle.marks.proofs.counted.Reads as counted-reads
-use Rattle.time.proofs.expired.Reads as expired-reads
+use Rattle.time.proofs.reached.Reads as reached-reads
+use Rattle.time.proofs.expiry_limit.Reads as expiry-limit-reads
 
 abbrev goes : ℕ → Window → Entry → Bool
 goes clock w e = owner-download-expired (e .owner) (active w) clock w
@@ -71,15 +73,18 @@ record Inv (clock count : ℕ) (ws : List ℕ) (x y i : ℕ) : Type 0 where
   pub bytes : y ≡ sum (select (goes clock (window-of ws)) (drop i (window-of ws .queue .pending)))
 
 abbrev Inv-loop : tie.InvT-loop
-Inv-loop words count clock timeout f₀ i₀ f i = Inv clock count words (f .blocks) (f .bytes) i
+Inv-loop words count clock timeout limit f₀ i₀ f i = Inv clock count words (f .blocks) (f .bytes) i
 
 abbrev μ-loop : tie.MeasureT-loop
-μ-loop words count clock timeout f₀ i₀ f i = i
+μ-loop words count clock timeout limit f₀ i₀ f i = i
+
+expiry-limit-requires : tie.Need-expiry-limit-requires Inv-loop μ-loop
+expiry-limit-requires c κs = c .before .pre .1 .1 .1 .1
 
 loop-holds : tie.Need-loop-holds Inv-loop μ-loop
 unfolding select sum
 loop-holds c =
-    let a = c .before .args in
+    let a = c .before .before .args in
     let l = window-of (a .words .now) .queue .pending in
     let none = drop-of-length-le l {i = a .count} (omega arith) in
     record { within = omega arith; few = omega arith; low = omega arith; blocks = rw none; bytes = rw none }
@@ -88,40 +93,40 @@ sub-i : tie.Need-sub-i Inv-loop μ-loop
 sub-i c = omega arith
 
 add-o : tie.Need-add-o Inv-loop μ-loop
-add-o c = omega (arith, c .before .loop .inv .within, pending-few (c .before .before .before .args .words .now))
+add-o c = omega (arith, c .before .loop .inv .within, pending-few (c .before .before .before .before .args .words .now))
 
 mul-o : tie.Need-mul-o Inv-loop μ-loop
-mul-o c = omega (arith, c .before .loop .inv .within, pending-few (c .before .before .before .args .words .now))
+mul-o c = omega (arith, c .before .loop .inv .within, pending-few (c .before .before .before .before .args .words .now))
 
 shared-slice-read-o : tie.Need-shared-slice-read-o Inv-loop μ-loop
-shared-slice-read-o c = omega (arith, c .before .before .loop .inv .within, pending-few (c .before .before .before .before .args .words .now))
+shared-slice-read-o c = omega (arith, c .before .before .loop .inv .within, pending-few (c .before .before .before .before .before .args .words .now))
 
-add-expired : tie.Need-add-expired Inv-loop μ-loop
-add-expired c = omega (arith, seat-at (c .before .before .before .before .args .words .now) (c .before .before .loop .i - 1) (omega (arith, c .before .before .loop .inv .within)) (c .before .before .before .before .pre .1 .1 .1 .0))
+add-reached : tie.Need-add-reached Inv-loop μ-loop
+add-reached c = omega (arith, seat-at (c .before .before .before .before .before .args .words .now) (c .before .before .loop .i - 1) (omega (arith, c .before .before .loop .inv .within)) (c .before .before .before .before .before .pre .1 .1 .1 .0))
 
-mul-expired : tie.Need-mul-expired Inv-loop μ-loop
-mul-expired c = omega (arith, seat-at (c .before .before .before .before .args .words .now) (c .before .before .loop .i - 1) (omega (arith, c .before .before .loop .inv .within)) (c .before .before .before .before .pre .1 .1 .1 .0))
+mul-reached : tie.Need-mul-reached Inv-loop μ-loop
+mul-reached c = omega (arith, seat-at (c .before .before .before .before .before .args .words .now) (c .before .before .loop .i - 1) (omega (arith, c .before .before .loop .inv .within)) (c .before .before .before .before .before .pre .1 .1 .1 .0))
 
-shared-slice-read-expired : tie.Need-shared-slice-read-expired Inv-loop μ-loop
-shared-slice-read-expired c = omega (arith, seat-at (c .before .before .before .before .before .args .words .now) (c .before .before .before .loop .i - 1) (omega (arith, c .before .before .before .loop .inv .within)) (c .before .before .before .before .before .pre .1 .1 .1 .0))
+shared-slice-read-reached : tie.Need-shared-slice-read-reached Inv-loop μ-loop
+shared-slice-read-reached c = omega (arith, seat-at (c .before .before .before .before .before .before .args .words .now) (c .before .before .before .loop .i - 1) (omega (arith, c .before .before .before .loop .inv .within)) (c .before .before .before .before .before .before .pre .1 .1 .1 .0))
 
-expired-requires : tie.Need-expired-requires Inv-loop μ-loop
-expired-requires c κs = c .before .before .before .before .before .pre .1 .1 .1 .1
+reached-requires : tie.Need-reached-requires Inv-loop μ-loop
+reached-requires c κs = search needs
 
 add-counted : tie.Need-add-counted Inv-loop μ-loop
-add-counted c = omega (arith, c .before .before .before .before .loop .inv .within, pending-few (c .before .before .before .before .before .before .args .words .now))
+add-counted c = omega (arith, c .before .before .before .before .loop .inv .within, pending-few (c .before .before .before .before .before .before .before .args .words .now))
 
 mul-counted : tie.Need-mul-counted Inv-loop μ-loop
-mul-counted c = omega (arith, c .before .before .before .before .loop .inv .within, pending-few (c .before .before .before .before .before .before .args .words .now))
+mul-counted c = omega (arith, c .before .before .before .before .loop .inv .within, pending-few (c .before .before .before .before .before .before .before .args .words .now))
 
 shared-slice-read-counted : tie.Need-shared-slice-read-counted Inv-loop μ-loop
-shared-slice-read-counted c = omega (arith, c .before .before .before .before .before .loop .inv .within, pending-few (c .before .before .before .before .before .before .before .args .words .now))
+shared-slice-read-counted c = omega (arith, c .before .before .before .before .before .loop .inv .within, pending-few (c .before .before .before .before .before .before .before .before .args .words .now))
 
 counted-requires : tie.Need-counted-requires Inv-loop μ-loop
 counted-requires c κs =
     let v = c .before .before .before .before .before .loop in
-    let few = pending-few (c .before .before .before .before .before .before .before .args .words .now) in
-    (omega (arith, v .inv .few, v .inv .within), (omega (arith, v .inv .low, v .inv .within), estimate-le (c .before .before .before .before .before .before .before .args .words .now) (v .i - 1) (omega (arith, v .inv .within)) (c .before .before .before .before .before .before .before .pre .1 .1 .1 .0)))
+    let few = pending-few (c .before .before .before .before .before .before .before .before .args .words .now) in
+    (omega (arith, v .inv .few, v .inv .within), (omega (arith, v .inv .low, v .inv .within), estimate-le (c .before .before .before .before .before .before .before .before .args .words .now) (v .i - 1) (omega (arith, v .inv .within)) (c .before .before .before .before .before .before .before .before .pre .1 .1 .1 .0)))
 
 loop-less : tie.Need-loop-less Inv-loop μ-loop
 loop-less c = omega arith
@@ -129,14 +134,14 @@ loop-less c = omega arith
 loop-again : tie.Need-loop-again Inv-loop μ-loop
 loop-again c =
     let v = c .before .before .before .before .before .before .loop in
-    let a = c .before .before .before .before .before .before .before .before .args in
+    let a = c .before .before .before .before .before .before .before .before .before .args in
     let ws = a .words .now in
     let j = v .i - 1 in
     let h : j < length (window-of ws .queue .pending) = omega (arith, v .inv .within) in
     let e : v .i ≡ suc j = omega arith in
-    let g = c .before .before .before .before .before .before .before .before .pre .1 .1 .1 .0 in
-    let t = turn ws (v .i) j (a .clock) (a .timeout) (v .f .blocks) (v .f .bytes) (c .counted .result .blocks) (c .counted .result .bytes) (c .before .before .expired .result) e h g (c .before .before .before .before .before .before .before .before .pre .1 .1 .0) (c .before .before .expired .ensures) (v .inv .blocks) (v .inv .bytes) (c .counted .ensures .0) (c .counted .ensures .1) in
-    let most = grows (c .before .before .expired .result) (v .f .blocks) (v .f .bytes) (getD ws (j + 1792) 0) (c .counted .result .blocks) (c .counted .result .bytes) (a .count - v .i) (v .inv .few) (v .inv .low) (estimate-le ws j h g) (c .counted .ensures .0) (c .counted .ensures .1) in
+    let g = c .before .before .before .before .before .before .before .before .before .pre .1 .1 .1 .0 in
+    let t = turn ws (v .i) j (a .clock) (a .timeout) (v .f .blocks) (v .f .bytes) (c .counted .result .blocks) (c .counted .result .bytes) (c .before .before .reached .result) e h g (c .before .before .before .before .before .before .before .before .before .pre .1 .1 .0) (c .before .before .reached .ensures (a .clock) (a .timeout) (c .before .before .before .before .before .before .before .expiry-limit .ensures)) (v .inv .blocks) (v .inv .bytes) (c .counted .ensures .0) (c .counted .ensures .1) in
+    let most = grows (c .before .before .reached .result) (v .f .blocks) (v .f .bytes) (getD ws (j + 1792) 0) (c .counted .result .blocks) (c .counted .result .bytes) (a .count - v .i) (v .inv .few) (v .inv .low) (estimate-le ws j h g) (c .counted .ensures .0) (c .counted .ensures .1) in
     record { within = omega (arith, v .inv .within); few = omega (arith, most .0, v .inv .within); low = omega (arith, most .1, v .inv .within); blocks = t .0; bytes = t .1 }
 
 returns : tie.Need-returns Inv-loop μ-loop
@@ -152,15 +157,16 @@ forecast-of-spec =
     (tie.spec
     Inv-loop
     μ-loop
+    expiry-limit-requires
     loop-holds
     sub-i
     add-o
     mul-o
     shared-slice-read-o
-    add-expired
-    mul-expired
-    shared-slice-read-expired
-    expired-requires
+    add-reached
+    mul-reached
+    shared-slice-read-reached
+    reached-requires
     add-counted
     mul-counted
     shared-slice-read-counted
