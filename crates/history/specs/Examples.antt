@@ -1,9 +1,10 @@
 -- A closed run, by computation: opening, requests of two peers, a delivery, a sweep, a prefix race won, a refused call, a second opening; what the
 -- lent words come to, and the book. `after` and `written` open on their own `unfolding` lines all that a run uses, so that a check names just them.
-use mathlib.Core.Path.{_≡_, refl, ap, _∙_}
+use mathlib.Core.Path.{_≡_, refl, ap, _∙_, subst}
+use mathlib.Core.Logic.{inl}
 use mathlib.Core.List.{List, [], _∷_, map}
 use Prim.Native.Nat.{ℕ}
-use lib.ListN.{getD, replicate}
+use lib.ListN.{length, getD, replicate}
 use lib.Count.{ones}
 use native.Mathlib.Omega.{arith}
 use Rattle.model.specs.Calls.{opened, asks-in, put, puts, raised, started, noted, mark-requested, credit-duplicate-delivery, record-delivery-progress, body-noted, credit-delivery-from, next-mean, mark-received-from}
@@ -15,7 +16,7 @@ use Rattle.model.specs.LettingGo.{without, remove-pending, gone, kept, total-af
 use Rattle.model.specs.Lists.{all, any, select, count, every}
 use Rattle.model.specs.Numbers.{lesser, greater, clock-ok, read-clock, next-height, present, age}
 use Rattle.model.specs.Pace.{sample-ms, nearer, front-mean-by, decay-floor, decayed, front-recorded, was-front, pace-opened}
-use Rattle.model.specs.Perform.{requested, changed}
+use Rattle.model.specs.Perform.{Answer, refused, requested, changed}
 use Rattle.model.specs.Races.{plan-limit, insert-by-height, by-height, walk, expected-after, plan-from, prefix-probe-plan, entered, probe-started, confirm-prefix-probe, place-of, all-four, winner, race-won, race-progress, record-prefix-probe-delivery, resolve-cold-front-delivery}
 use Rattle.model.specs.Reasons.{lowers, lowered}
 use Rattle.model.specs.Records.{new-entry, insert, remove, found, lowest, sum, pending-count-for}
@@ -27,7 +28,8 @@ use Rattle.model.specs.declared.Hash.{Hash}
 use Rattle.model.specs.declared.Release.{Release}
 use Rattle.model.specs.declared.Settings.{Settings}
 use Rattle.model.specs.declared.Source.the-variants.{From}
-use Rattle.history.specs.Run.{Act, Run, run, on-words}
+use Rattle.history.specs.Run.{Act, Done, Run, run, on-words}
+use Rattle.history.specs.Reports.{left-by, Answered}
 use Rattle.history.specs.Claim.{Claim, the-book-adds-up}
 use Rattle.history.specs.Book.{Book, opened-lines, pending-lines, gone-lines, marks, mark, mark-all, add-lines, entries-of, book-step, book, new-book}
 
@@ -71,8 +73,8 @@ unfolding act settings
 opening = act (opens 5 settings (replicate 256 0))
 
 -- seat 4 asks for 1 and 2, seat 3 for 3; 1 comes, of 1,000,000 bytes; at 915 the time of seat 4 is out, that of seat 3 is not, and 2 is swept;
--- seat 3 asks for 4 to 8, and seat 7 races it for 3 to 7: it has brought 3, 4, 5 and 6, so 7 and 8 go; seat 9 asks for 1 again; a clock that goes
--- back is refused
+-- seat 3 asks for 4 to 8, of which 6, 7 and 8 are the lowest, and seat 7 races it for 3, 6, 7, 8 and 4: it has brought 3, 6, 7 and 8, so 4 and 5
+-- go, after 8 in the report; seat 9 asks for 1 again; a clock that goes back is refused
 calls : List Act
 unfolding act h
 calls =
@@ -80,12 +82,12 @@ calls =
     ∷ act (changes (requests 20 3 (0 ∷ 0 ∷ 0 ∷ 3 ∷ []) (52 ∷ []) 53 0 0))
     ∷ act (changes (receives 30 (h 1) 1000000 (From 4)))
     ∷ act (changes (expires 915))
-    ∷ act (changes (requests 920 3 (0 ∷ 0 ∷ 0 ∷ 4 ∷ 0 ∷ 0 ∷ 0 ∷ 5 ∷ 0 ∷ 0 ∷ 0 ∷ 6 ∷ 0 ∷ 0 ∷ 0 ∷ 7 ∷ 0 ∷ 0 ∷ 0 ∷ 8 ∷ []) (53 ∷ 54 ∷ 55 ∷ 56 ∷ 57 ∷ []) 58 0 0))
-    ∷ act (changes (confirms-probe 925 3 (0 ∷ 0 ∷ 0 ∷ 3 ∷ 0 ∷ 0 ∷ 0 ∷ 4 ∷ 0 ∷ 0 ∷ 0 ∷ 5 ∷ 0 ∷ 0 ∷ 0 ∷ 6 ∷ 0 ∷ 0 ∷ 0 ∷ 7 ∷ []) (7 ∷ [])))
+    ∷ act (changes (requests 920 3 (0 ∷ 0 ∷ 0 ∷ 4 ∷ 0 ∷ 0 ∷ 0 ∷ 5 ∷ 0 ∷ 0 ∷ 0 ∷ 6 ∷ 0 ∷ 0 ∷ 0 ∷ 7 ∷ 0 ∷ 0 ∷ 0 ∷ 8 ∷ []) (56 ∷ 57 ∷ 53 ∷ 54 ∷ 55 ∷ []) 58 0 0))
+    ∷ act (changes (confirms-probe 925 3 (0 ∷ 0 ∷ 0 ∷ 3 ∷ 0 ∷ 0 ∷ 0 ∷ 6 ∷ 0 ∷ 0 ∷ 0 ∷ 7 ∷ 0 ∷ 0 ∷ 0 ∷ 8 ∷ 0 ∷ 0 ∷ 0 ∷ 4 ∷ []) (7 ∷ [])))
     ∷ act (changes (receives 930 (h 3) 354376 (From 7)))
-    ∷ act (changes (receives 931 (h 4) 354376 (From 7)))
-    ∷ act (changes (receives 932 (h 5) 354376 (From 7)))
-    ∷ act (changes (receives 933 (h 6) 354376 (From 7)))
+    ∷ act (changes (receives 931 (h 6) 354376 (From 7)))
+    ∷ act (changes (receives 932 (h 7) 354376 (From 7)))
+    ∷ act (changes (receives 933 (h 8) 354376 (From 7)))
     ∷ act (changes (requests 940 9 (0 ∷ 0 ∷ 0 ∷ 1 ∷ []) (50 ∷ []) 58 0 0))
     ∷ act (changes (requests 900 9 (0 ∷ 0 ∷ 0 ∷ 2 ∷ []) (51 ∷ []) 58 0 0))
     ∷ []
@@ -97,7 +99,7 @@ the-book = written calls (new-book 5 settings (replicate 256 0))
 -- ---- the book: of each mark the call, the place, the reason and the hash
 
 marks-are : map (λ m. m .call ∷ m .place ∷ m .reason ∷ m .entry .hash .d ∷ []) (marks (the-book .lines))
-    ≡ (10 ∷ 2 ∷ 9 ∷ 8 ∷ []) ∷ (10 ∷ 1 ∷ 9 ∷ 7 ∷ []) ∷ (10 ∷ 0 ∷ 1 ∷ 6 ∷ []) ∷ (9 ∷ 0 ∷ 1 ∷ 5 ∷ []) ∷ (8 ∷ 0 ∷ 1 ∷ 4 ∷ []) ∷ (7 ∷ 0 ∷ 1 ∷ 3 ∷ [])
+    ≡ (10 ∷ 0 ∷ 1 ∷ 8 ∷ []) ∷ (9 ∷ 0 ∷ 1 ∷ 7 ∷ []) ∷ (8 ∷ 0 ∷ 1 ∷ 6 ∷ []) ∷ (10 ∷ 2 ∷ 9 ∷ 5 ∷ []) ∷ (10 ∷ 1 ∷ 9 ∷ 4 ∷ []) ∷ (7 ∷ 0 ∷ 1 ∷ 3 ∷ [])
     ∷ (4 ∷ 0 ∷ 6 ∷ 2 ∷ []) ∷ (3 ∷ 0 ∷ 1 ∷ 1 ∷ []) ∷ []
 unfolding the-book marks
 marks-are = refl
@@ -129,7 +131,7 @@ accepted : refusal (opens 5 settings (replicate 256 0)) lent-words 256 ≡ 0
 unfolding settings lent-words opening-refusal settings-ok keys-ok every all
 accepted = refl
 
-holds : Claim (the-run .words) (window-of (the-run .words)) the-book (the-run .done)
+holds : Claim lent-words (the-run .words) (window-of (the-run .words)) the-book (the-run .done)
 unfolding the-run the-book written opening calls act lent
 holds = the-book-adds-up lent-words 5 settings (replicate 256 0) (replicate 256 blank-release) calls accepted (omega arith)
 
@@ -152,3 +154,11 @@ second = written (opening ∷ []) the-book
 second-empty : (second .lines ≡ []) × (second .own .queue .total ≡ 0)
 unfolding second the-book
 second-empty = (refl, refl)
+
+-- ---- what the claim rules out: that a call was done, and its answer said that it was refused
+
+said-refused : {first ws : List ℕ} {w : Window} {b : Book} {h : List Done} (d : Done) (k : ℕ) → Claim first ws w b (d ∷ h)
+    → refusal (d .act .call) (left-by first h) (length (d .act .lent)) ≡ 0 → d .outcome .answer ≡ refused k → ⊥
+said-refused {first} {h = h} d k c q e =
+    let r = refusal (d .act .call) (left-by first h) (length (d .act .lent)) in
+    subst (λ (n : ℕ). Answered n (refused k)) q (subst (λ (a : Answer). Answered r a) e (c .refusals d (left-by first h) (inl (refl, refl))))

@@ -1,8 +1,9 @@
--- What the calls' reports held when they returned, place by place. Definitions only.
+-- What the calls found and answered, and what their reports held when they returned, place by place. Definitions only.
 use mathlib.Core.Path.{_≡_}
+use mathlib.Core.Logic.{_⊎_}
 use mathlib.Core.Bool.{Bool, cond, _&&_}
 use mathlib.Core.List.{List, [], _∷_}
-use Prim.Native.Nat.{ℕ, _≤_}
+use Prim.Native.Nat.{ℕ, zero, suc, _≤_}
 use lib.Dec.{eqb}
 use lib.ListN.{length, take, drop}
 use Rattle.model.specs.Refusals.{Call, opens, changes, queries}
@@ -49,3 +50,20 @@ pub record AsLent (d : Done) : Type 0 where
   pub long : length (d .outcome .report) ≡ length (d .act .lent)
   pub fits : count-of (d .outcome .answer) ≤ length (d .act .lent)
   pub rest : drop (count-of (d .outcome .answer)) (d .outcome .report) ≡ drop (count-of (d .outcome .answer)) (d .act .lent)
+
+-- the words as the calls h left them, those before the first being `first`
+abbrev pub left-by : List ℕ → List Done → List ℕ
+left-by first [] = first
+left-by first (d ∷ h) = d .outcome .words
+
+-- d is one of the calls h, the latest first, and found the words ws
+abbrev pub Made : List ℕ → List Done → Done → List ℕ → Type 0
+Made first [] d ws = ⊥
+Made first (x ∷ h) d ws = ((d ≡ x) × (ws ≡ left-by first h)) ⊎ Made first h d ws
+
+-- the answer to a call that is refused by the number r, 0 for none
+abbrev pub Answered : ℕ → Answer → Type 0
+Answered zero (refused k) = ⊥
+Answered zero (says n values) = Unit {0}
+Answered (suc r) (refused k) = k ≡ suc r
+Answered (suc r) (says n values) = ⊥
