@@ -28,15 +28,14 @@ static kofudile_hash block(uint32_t height) {
 
 /* Requests blocks first .. first + count - 1 of a peer; answers the refusal. */
 static uint64_t request(uint64_t seat, uint32_t first, uint32_t count, uint64_t clock) {
-    uint64_t hashes[4 * 16];
+    kofudile_hash hashes[16];
     uint32_t heights[16];
     for (uint32_t i = 0; i < count; i++) {
-        kofudile_hash hash = block(first + i);
-        hashes[4 * i] = hash.a, hashes[4 * i + 1] = hash.b, hashes[4 * i + 2] = hash.c, hashes[4 * i + 3] = hash.d;
+        hashes[i] = block(first + i);
         heights[i] = first + i;
     }
-    kofudile_number said = kofudile_mark_requested(
-        words, KOFUDILE_WORDS, seat, hashes, 4 * count, heights, count, first + count, NO_LIMIT, NO_LIMIT, clock);
+    kofudile_number said =
+        kofudile_mark_requested_of(words, KOFUDILE_WORDS, seat, hashes, heights, count, first + count, NO_LIMIT, NO_LIMIT, clock);
     if (said.refused == 0)
         printf("asked seat %" PRIu64 " for blocks %" PRIu32 " to %" PRIu32 "; room for more: %s\n", seat, first, first + count - 1,
             said.value ? "yes" : "no");

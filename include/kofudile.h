@@ -3,18 +3,31 @@
  *
  * Link libexport.a (`rt staticlib export` writes target/staticlib/libexport.a; x86-64, System V calls). It keeps nothing of its own: no globals, no
  * allocation, no clock, no threads. All state is in 4,096 words that the host lends with each call. include/example.c is a whole host.
+ * It calls memcpy, memmove and memset, which the compiler's back end puts in, and nothing else: a freestanding host supplies these three.
  *
  * WHAT IS LENT, AND FOR HOW LONG
  *   words    the window: 4,096 of uint64_t, 32 KiB. The host owns them for as long as it likes, may copy, save and load them, and lends them to one
- *            call at a time. Nothing points into them after a call returns. docs/LAYOUT.md says what each word means.
+ *            call at a time. Nothing points into them after a call returns. Between calls it leaves them as they are: words that were changed and still
+ *            count as a window are taken for one. docs/LAYOUT.md says what each word means.
  *   report   where a call that lets entries go writes them: 256 or more of kofudile_release. The answer's `places` says how many were written, from the
  *            first place on; places after them are as they were. Lent for the one call.
  *   lists    hashes, heights, keys, flags, alternates: read during the call only.
  * A list is a pointer and then its length, counted in elements. The library trusts the host in this alone:
- *   - a pointer is not null, also with length 0, and that many elements may be read (written: words, report);
+ *   - a pointer is not null, also with length 0, and that many elements may be read (written: words, report). It is aligned as its type is: to 8 bytes,
+ *     heights to 4;
  *   - what is lent for writing overlaps no other argument, and no other thread touches it during the call. Several threads may query one window;
  *   - a bool is 0 or 1.
  * Everything else is checked: any length, any words, any numbers give an answer and never undefined behaviour.
+ *
+ * STACK AND TIME
+ *   Give a call 64 KB of stack. As built it takes at most 27.2 KB (mark_received_from and credit_delivery_from; expire_pending and retire_before 26.8, the
+ *   other calls that let go 21 to 23, everything else under 3), and no call recurses.
+ *   A request's list is looked through for hashes listed twice before its length is: one that is too long is refused in a time that grows with the square
+ *   of its length (64,000 hashes: 2.6 s). A host whose lists come from elsewhere holds them to KOFUDILE_PLACES first.
+ *
+ * SAVING A WINDOW
+ *   The words hold clocks, so save with them where the clock started. A clock that starts again from 0 is before the last accepted one, and every call
+ *   and query that takes a clock is refused by 4 until it has caught up.
  *
  * TERMS
  *   seat     0 to 255: the host's number for a connection. Key: 0 to 255, one for each seat, for the address behind it; cooling goes by key.
@@ -92,7 +105,7 @@ enum {
 enum {
     KOFUDILE_NOTHING = 0,
     KOFUDILE_BLAME_STALLER = 1,         /* owner: it holds up the whole window; it cools from now on */
-    KOFUDILE_BLAME_PENDING_TIMEOUT = 2, /* owner: its time was out at two looks; it cools from now on */
+    KOFUDILE_BLAME_PENDING_TIMEOUT = 2, /* owner: its time was out at a look, and at the next one too or its entry was swept between; it cools from now on */
     KOFUDILE_EVICT_STAGED = 3,          /* height, hash, suppressed: applying is stuck on this staged block for so long: drop it */
     KOFUDILE_HEDGE_COLD_FRONT = 4       /* owner, hash: ask another peer for this block too, then kofudile_confirm_cold_front_hedge */
 };
@@ -178,8 +191,9 @@ uint64_t kofudile_open(uint64_t *words, size_t words_len, kofudile_settings sett
 /* ---- Requests ---- */
 
 /*
- * The host sent this request to owner: its entries are pending from now. hashes: four words each; heights: one each; the request is the first
- * min(hashes_len / 4, heights_len) of them, and may be empty. next: the frontier is raised to it. The headrooms are those with the entries in.
+ * The host sent this request to owner: its entries are pending from now. hashes: four words each, so that hashes_len is FOUR TIMES the number of hashes
+ * (kofudile_mark_requested_of, below, takes hashes and their number); heights: one each; the request is the first min(hashes_len / 4, heights_len) of
+ * them, the rest is not looked at, and it may be empty. next: the frontier is raised to it. The headrooms are those with the entries in.
  * value 1: there is room for more. A request may pass max_pending_blocks, not 256. refused by 1, 2, 4, 6, 7, 8
  */
 kofudile_number kofudile_mark_requested(uint64_t *words, size_t words_len, uint64_t owner, const uint64_t *hashes, size_t hashes_len,
@@ -239,13 +253,18 @@ kofudile_gone kofudile_retain_owned_by(uint64_t *words, size_t words_len, kofudi
 uint64_t kofudile_mark_peer_unresponsive(uint64_t *words, size_t words_len, uint64_t source, uint64_t clock);
 
 /*
- * The host asked the alternates too for the blocks of kofudile_prefix_probe_plan: the race begins. given: the plan's hashes, four words each. If owner
- * and hashes are not those of the plan as it is now, or there is no alternate, nothing changes but the clock. refused by 1, 2, 4, 6
+ * The host asked the alternates too for the blocks of kofudile_prefix_probe_plan: the race begins. given: the plan's hashes, four words each, so that
+ * given_len is FOUR TIMES their number (kofudile_confirm_prefix_probe_of, below, takes hashes and their number). If owner and hashes are not those of the
+ * plan as it is now, or there is no alternate, nothing changes but the clock, and the answer is 0 all the same:
+ * kofudile_active_prefix_probe_started_at says whether the race began. refused by 1, 2, 4, 6
  */
 uint64_t kofudile_confirm_prefix_probe(uint64_t *words, size_t words_len, uint64_t owner, const uint64_t *given, size_t given_len,
     const uint64_t *alternates, size_t alternates_len, uint64_t clock);
 
-/* The host asked the alternate too for the block of KOFUDILE_HEDGE_COLD_FRONT. Does nothing if the window waits for another. refused by 1, 2, 6 */
+/*
+ * The host asked the alternate too for the block of KOFUDILE_HEDGE_COLD_FRONT. Does nothing if the window waits for another, or hedged two fronts already,
+ * and answers 0 all the same: kofudile_hedge_offered of alternate and hash says whether the race began. refused by 1, 2, 6
+ */
 uint64_t kofudile_confirm_cold_front_hedge(uint64_t *words, size_t words_len, uint64_t owner, uint64_t alternate, kofudile_hash hash);
 
 /*
@@ -324,6 +343,19 @@ kofudile_number kofudile_hedge_offered(const uint64_t *words, size_t words_len, 
 
 /* ---- For the host's convenience ---- */
 
+/* kofudile_mark_requested of `count` hashes, and as many heights. */
+static inline kofudile_number kofudile_mark_requested_of(uint64_t *words, size_t words_len, uint64_t owner, const kofudile_hash *hashes,
+    const uint32_t *heights, size_t count, uint32_t next, uint64_t byte_headroom, uint64_t count_headroom, uint64_t clock) {
+    return kofudile_mark_requested(
+        words, words_len, owner, &hashes->a, 4 * count, heights, count, next, byte_headroom, count_headroom, clock);
+}
+
+/* kofudile_confirm_prefix_probe of `count` hashes: those of kofudile_prefix_probe_hashes, as many as the plan's count. */
+static inline uint64_t kofudile_confirm_prefix_probe_of(uint64_t *words, size_t words_len, uint64_t owner, const kofudile_hash *given, size_t count,
+    const uint64_t *alternates, size_t alternates_len, uint64_t clock) {
+    return kofudile_confirm_prefix_probe(words, words_len, owner, &given->a, 4 * count, alternates, alternates_len, clock);
+}
+
 static inline uint64_t kofudile_word_of(const uint8_t *bytes) {
     uint64_t word = 0;
     for (int i = 0; i < 8; i++) word = word << 8 | bytes[i];
@@ -342,9 +374,11 @@ static inline kofudile_hash kofudile_hash_of(const uint8_t *bytes) {
 
 #ifdef __cplusplus
 }
-static_assert(sizeof(kofudile_entry) == 64 && sizeof(kofudile_release) == 72 && sizeof(kofudile_settings) == 96, "structs without gaps");
+static_assert(sizeof(kofudile_hash) == 32 && sizeof(kofudile_entry) == 64 && sizeof(kofudile_release) == 72 && sizeof(kofudile_settings) == 96,
+    "structs without gaps");
 #else
-_Static_assert(sizeof(kofudile_entry) == 64 && sizeof(kofudile_release) == 72 && sizeof(kofudile_settings) == 96, "structs without gaps");
+_Static_assert(sizeof(kofudile_hash) == 32 && sizeof(kofudile_entry) == 64 && sizeof(kofudile_release) == 72 && sizeof(kofudile_settings) == 96,
+    "structs without gaps");
 #endif
 
 #endif

@@ -16,7 +16,8 @@ const BLANK: ffi::Release =
 
 /// The window: what was asked for and is not in yet.
 ///
-/// It owns the 4,096 words that the library works on, and the report of what the last accepted call let go ([`released`](Self::released)).
+/// It owns the 4,096 words that the library works on, and the report of what the last accepted call let go ([`released`](Self::released); queries
+/// do not count).
 /// Every method answers `Err` where the library refuses, and a refused call changes nothing. A moment that is before the last accepted
 /// one is refused ([`Refusal::Clock`]), in calls and in queries.
 #[derive(Clone)]
@@ -46,6 +47,10 @@ impl DownloadWindow {
 
     /// The window that these words hold, saved from [`words`](Self::words); `clock_zero` is the moment that was
     /// [`clock_zero`](Self::clock_zero) then. Words that are not a window are refused ([`Refusal::NoWindow`]).
+    ///
+    /// The words hold times counted from that moment, and an `Instant` cannot be saved: save `clock_zero().elapsed()` with the words, and hand in
+    /// `Instant::now() - elapsed`. The time between counts as none then. With a later moment, such as `Instant::now()`, every call that takes one
+    /// is refused ([`Refusal::Clock`]) until the clock has caught up with the saved one.
     pub fn from_words(words: Box<[u64; WORDS]>, clock_zero: Instant) -> Result<Self, Refusal> {
         let window = Self::over(words, clock_zero);
         window.pending_len().map(|_| window)
@@ -104,7 +109,8 @@ impl DownloadWindow {
                 clock,
             )
         };
-        Refusal::unless(said.refused, || said.value == 1)
+        self.kept(said.refused)?;
+        Ok(said.value == 1)
     }
 
     /// The host would fetch one block out of turn; `is_staged`: whether its body is staged. Only after [`OwnedFetch::Asked`] is a message to be sent.
@@ -135,7 +141,8 @@ impl DownloadWindow {
                 clock,
             )
         };
-        Refusal::unless(said.refused, || match said.value {
+        self.kept(said.refused)?;
+        Ok(match said.value {
             0 => OwnedFetch::Held,
             1 => OwnedFetch::Staged,
             2 => OwnedFetch::Asked,
@@ -187,7 +194,7 @@ impl DownloadWindow {
         let (w, n) = self.lend();
         // SAFETY: as in `new`.
         let refused = unsafe { ffi::kofudile_credit_duplicate_delivery(w, n, hash.flat(), source.into()) };
-        Refusal::unless(refused, || ())
+        self.kept(refused)
     }
 
     /// A body was no good: if its source owned the entry, the entry goes.
@@ -205,7 +212,8 @@ impl DownloadWindow {
 
 /// Letting go.
 impl DownloadWindow {
-    /// What the last accepted call of those that let entries go has let go: the delivered entry first, the others by rising hash.
+    /// What the last accepted call let go: the delivered entry first, the others by rising hash; none after a call that lets nothing go. Queries
+    /// and refused calls leave it, so read it after accepted calls alone.
     pub fn released(&self) -> impl ExactSizeIterator<Item = Release> + '_ {
         self.report[..self.places].iter().map(|release| {
             let ffi::Entry { hash, owner, time, height, estimate } = release.entry;
@@ -285,11 +293,12 @@ impl DownloadWindow {
         let (w, n) = self.lend();
         // SAFETY: as in `new`.
         let refused = unsafe { ffi::kofudile_mark_peer_unresponsive(w, n, source.into(), clock) };
-        Refusal::unless(refused, || ())
+        self.kept(refused)
     }
 
     /// The host asked the alternates too for the blocks of [`prefix_probe_plan`](Self::prefix_probe_plan): the race begins. Does nothing if there
-    /// is no alternate, or if owner and hashes are not those of the plan as it is now.
+    /// is no alternate, or if owner and hashes are not those of the plan as it is now, and answers `Ok` all the same:
+    /// [`active_prefix_probe_started_at`](Self::active_prefix_probe_started_at) says whether it began.
     ///
     /// Refused by `Clock`, `Peer` (more than 256 alternates).
     pub fn confirm_prefix_probe(
@@ -316,16 +325,17 @@ impl DownloadWindow {
                 clock,
             )
         };
-        Refusal::unless(refused, || ())
+        self.kept(refused)
     }
 
-    /// The host asked the alternate too for the block of [`BlockedDecision::HedgeColdFront`]. Does nothing if the window waits for another. Never
+    /// The host asked the alternate too for the block of [`BlockedDecision::HedgeColdFront`]. Does nothing if the window waits for another, or hedged
+    /// two fronts already, and answers `Ok` all the same: [`hedge_offered`](Self::hedge_offered) of alternate and hash says whether it began. Never
     /// refused.
     pub fn confirm_cold_front_hedge(&mut self, owner: Seat, alternate: Seat, hash: Hash256) -> Result<(), Refusal> {
         let (w, n) = self.lend();
         // SAFETY: as in `new`.
         let refused = unsafe { ffi::kofudile_confirm_cold_front_hedge(w, n, owner.into(), alternate.into(), hash.flat()) };
-        Refusal::unless(refused, || ())
+        self.kept(refused)
     }
 
     /// The look at a blocked window, to be made again and again: what to do.
@@ -354,7 +364,8 @@ impl DownloadWindow {
             )
         };
         let (owner, hash) = (said.owner as Seat, Hash256::of(said.hash));
-        Refusal::unless(said.refused, || match said.decision {
+        self.kept(said.refused)?;
+        Ok(match said.decision {
             1 => BlockedDecision::Blame { owner, reason: BlameReason::Staller },
             2 => BlockedDecision::Blame { owner, reason: BlameReason::PendingTimeout },
             3 => {
@@ -375,7 +386,7 @@ impl DownloadWindow {
         let (w, n) = self.lend();
         // SAFETY: as in `new`.
         let refused = unsafe { ffi::kofudile_set_fanout_eligible_peers(w, n, count as u64, clock) };
-        Refusal::unless(refused, || ())
+        self.kept(refused)
     }
 
     /// Forgets the winner of the last race. Never refused.
@@ -383,7 +394,7 @@ impl DownloadWindow {
         let (w, n) = self.lend();
         // SAFETY: as in `new`.
         let refused = unsafe { ffi::kofudile_clear_preferred_peer(w, n) };
-        Refusal::unless(refused, || ())
+        self.kept(refused)
     }
 }
 
@@ -394,6 +405,11 @@ impl DownloadWindow {
 
     fn lend_both(&mut self) -> (ffi::Words, usize, ffi::Report, usize) {
         (self.words.as_mut_ptr(), WORDS, self.report.as_mut_ptr(), PLACES)
+    }
+
+    /// After a call that lets nothing go: there is no report, unless it was refused.
+    fn kept(&mut self, refused: u64) -> Result<(), Refusal> {
+        self.filled(refused, 0)
     }
 
     /// After a call that lets go: its report counts from now, unless it was refused.

@@ -137,7 +137,7 @@ pub struct BlockedContext {
 pub enum BlameReason {
     /// It holds up the whole window.
     Staller,
-    /// Its time was out, seen at two looks.
+    /// Its time was out at a look, and at the next one too or its entry was swept between.
     PendingTimeout,
 }
 
@@ -200,7 +200,7 @@ pub struct PrefixProbePlan {
     pub owner: Seat,
     /// Four to eight of them, by rising height.
     pub hashes: Vec<Hash256>,
-    /// The last one's height.
+    /// The last one's height; one less where that is 4,294,967,295, as in the original.
     pub end_height: u32,
 }
 

@@ -141,6 +141,44 @@ fn a_delivery_and_its_report() {
     assert_eq!(window.released().len(), 0);
 }
 
+/// A call that lets nothing go leaves no report of an earlier one, so that nobody counts that one twice.
+fn lets_nothing_go<T: std::fmt::Debug>(call: impl FnOnce(&mut DownloadWindow, Instant) -> Result<T, Refusal>) {
+    let (mut window, now) = six();
+    window.retire_before(3, now).unwrap();
+    assert_eq!((window.pending_len(), window.released().len()), (Ok(4), 2));
+    call(&mut window, now).unwrap();
+    assert_eq!(window.released().len(), 0);
+}
+
+#[test]
+fn an_accepted_call_that_lets_nothing_go_empties_the_report() {
+    lets_nothing_go(|window, now| window.mark_requested(FREE, 3, &entries([9]), 10, now));
+    lets_nothing_go(|window, now| window.mark_owned_fetch(FREE, false, 3, block(9), 9, now));
+    lets_nothing_go(|window, now| window.mark_received_from(block(9), 80, Some(3), now));
+    lets_nothing_go(|window, now| window.credit_delivery_from(block(9), 3, None, now));
+    lets_nothing_go(|window, _| window.credit_duplicate_delivery(block(9), 3));
+    lets_nothing_go(|window, now| window.reject_delivery(block(9), Some(3), now));
+    lets_nothing_go(|window, now| window.expire_pending(now));
+    lets_nothing_go(|window, now| window.requeue_for_retry(&block(9), None, now));
+    lets_nothing_go(|window, now| window.release_pending(&block(9), now));
+    lets_nothing_go(|window, now| window.retire_before(3, now));
+    lets_nothing_go(|window, _| window.retain_owned_by(|_| true));
+    lets_nothing_go(|window, now| window.mark_peer_unresponsive(9, now));
+    lets_nothing_go(|window, now| window.confirm_prefix_probe(1, &[], &[], now));
+    lets_nothing_go(|window, _| window.confirm_cold_front_hedge(1, 2, block(1)));
+    lets_nothing_go(|window, now| window.observe_blocked(context(1), NOTHING_STAGED, now));
+    lets_nothing_go(|window, now| window.set_fanout_eligible_peers(1, now));
+    lets_nothing_go(|window, _| window.clear_preferred_peer());
+}
+
+#[test]
+fn a_query_leaves_the_report() {
+    let (mut window, now) = six();
+    window.retire_before(3, now).unwrap();
+    assert_eq!((window.pending_bytes(), window.peer_has_expired_pending(1, now)), (Ok(4 * 262_144), Ok(false)));
+    assert_eq!(gone(&window), [(2, 1, Reason::Retired), (1, 1, Reason::Retired)]);
+}
+
 #[test]
 fn fronts_move_the_pace() {
     let (mut window, now) = six();
@@ -376,6 +414,20 @@ fn words_saved_and_loaded() {
     let mut damaged = Box::new(*window.words());
     damaged[4095] = 1;
     assert_eq!(DownloadWindow::from_words(damaged, now).map(|_| ()), Err(Refusal::NoWindow));
+}
+
+/// As after a restart, which an `Instant` does not outlive.
+#[test]
+fn a_loaded_window_needs_its_clock() {
+    let (mut window, now) = opened();
+    let (stopped, started) = (now + 1_000 * SECOND, now + 5_000 * SECOND);
+    window.mark_requested(FREE, 1, &entries([1]), 2, stopped).unwrap();
+    let elapsed = stopped - window.clock_zero();
+    let load = |clock_zero| DownloadWindow::from_words(Box::new(*window.words()), clock_zero).unwrap();
+    assert_eq!(load(started).expire_pending(started + 999 * SECOND), Err(Refusal::Clock));
+    assert_eq!(load(started).expire_pending(started + 1_000 * SECOND), Ok(0));
+    assert_eq!(load(started - elapsed).expire_pending(started + 599 * SECOND), Ok(0));
+    assert_eq!(load(started - elapsed).expire_pending(started + 600 * SECOND), Ok(1));
 }
 
 #[test]

@@ -111,7 +111,7 @@ impl Host {
             Call::ClearPreferredPeer => done(window.clear_preferred_peer()),
             _ => return None,
         };
-        Some(answer.map(|answer| (answer, Vec::new())))
+        Some(self.with_released(window, answer))
     }
 
     fn let_go(&self, window: &mut DownloadWindow, call: &Call) -> Option<Said> {
@@ -139,7 +139,11 @@ impl Host {
             Call::RetainOwnedBy { owns } => done(window.retain_owned_by(|seat| owns[usize::from(seat)])),
             _ => return None,
         };
-        Some(answer.map(|answer| (answer, window.released().map(|release| self.plain(release)).collect())))
+        Some(self.with_released(window, answer))
+    }
+
+    fn with_released(&self, window: &DownloadWindow, answer: Result<Answer, Refusal>) -> Said {
+        answer.map(|answer| (answer, window.released().map(|release| self.plain(release)).collect()))
     }
 
     fn query(&self, window: &DownloadWindow, call: &Call) -> Said {

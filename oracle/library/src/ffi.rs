@@ -1,4 +1,4 @@
-//! crates/export/API.md as Rust: the C structs and functions. Nothing checks these declarations but the runs.
+//! crates/export/API.md as Rust: the C structs and functions; include/check compares them with crates/export.
 
 #[repr(C)]
 #[derive(Clone, Copy, Debug, PartialEq, Eq)]

@@ -31,7 +31,7 @@ struct Found {
 }
 
 const USAGE: &str = "wanted: calls CALLS SEED SEEDS, refusals SEED, damage CASES SEED, figures, differences, vectors FOLDER, short CALLS SEED CASES, or \
-                     all CALLS SEED SEEDS CASES DOCUMENT EVENTS";
+                     all CALLS SEED SEEDS CASES DOCUMENT EVENTS COMMIT SUM";
 
 fn main() -> ExitCode {
     let arguments: Vec<String> = env::args().skip(1).collect();
@@ -47,12 +47,12 @@ fn main() -> ExitCode {
             let seed = number(seed);
             vec![beside(number(calls), seed, 1).0, refusals(seed), damage(number(cases), seed), held_figures(), meant_to_differ()]
         }
-        ["all", calls, seed, seeds, cases, document, events] => {
+        ["all", calls, seed, seeds, cases, document, events, commit, sum] => {
             let (compared, table) = beside(number(calls), number(seed), number(seeds));
             let all =
                 vec![compared, refusals(number(seed)), damage(number(cases), number(seed)), held_figures(), meant_to_differ()];
             fs::write(events, table).unwrap_or_else(|error| panic!("{events}: {error}"));
-            fs::write(document, text(&all, &arguments)).unwrap_or_else(|error| panic!("{document}: {error}"));
+            fs::write(document, text(&all, &arguments, commit, sum)).unwrap_or_else(|error| panic!("{document}: {error}"));
             all
         }
         _ => {
@@ -74,10 +74,11 @@ fn number(text: &str) -> u64 {
     text.replace(['_', ','], "").parse().unwrap_or_else(|_| panic!("{text} is not a number"))
 }
 
-/// docs/COMPARED.md.
-fn text(all: &[Found], arguments: &[String]) -> String {
+/// docs/COMPARED.md. `commit` ends in a + where files differed from it; `sum` is the library's.
+fn text(all: &[Found], arguments: &[String], commit: &str, sum: &str) -> String {
     let mut text = format!(
-        "# The library beside the Rust\n\nWritten by `oracle/compare {}`; what is compared, and how, is in [oracle/README.md](../oracle/README.md).\n",
+        "# The library beside the Rust\n\nWritten by `oracle/compare {}` at commit {commit} (a + after it: with changes that were not committed); sha256 of \
+         the library, libexport.a: {sum}. What is compared, and how, is in [oracle/README.md](../oracle/README.md).\n",
         arguments[..5].join(" ")
     );
     for part in all {
