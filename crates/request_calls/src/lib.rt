@@ -71,11 +71,15 @@ fn none_pending(words: &[u64], hashes: &[u64], heights: &[u32]) -> bool
     true
 }
 
-// `request-refusal`: 7, then 8, or 0 for none. The sum of pending and listed is never made.
+// `request-refusal`: 7, then 8, or 0 for none. A list of many asks has a quick yes; the tests below take a time that grows with its square. The sum
+// of pending and listed is never made.
 pub fn request_refusal(words: &[u64], hashes: &[u64], heights: &[u32]) -> u64
     requires { ⌜ Whole (now words) × (rising (window-of (now words) .queue .pending) ≡ true) ⌝ }
     ensures { λ r. ⌜ r ≡ request-refusal (asks-in (now (hashes .entry)) (now (heights .entry))) (window-of (now (words .entry))) ⌝ }
 {
+    if request_order::quickly_good(words, hashes, heights) {
+        return 0;
+    }
     if !none_pending(words, hashes, heights) {
         return 7;
     }
@@ -109,7 +113,7 @@ pub fn request(
         × Holds (with-clock clock (mark-requested (asks-in (now (hashes .entry)) (now (heights .entry))) owner next clock (window-of (now (words .entry))))) (now (words .exit))
         ⌝ }
 {
-    requests::mark_requested(words, hashes, heights, owner, next, clock);
+    request_many::mark_requested(words, hashes, heights, owner, next, clock);
     let room = queries::has_request_capacity(words, byte_headroom, count_headroom);
     state::set_clock(words, clock);
     if room {

@@ -21,7 +21,7 @@ use records::Place;
 // ---- one entry
 
 // `new-entry`
-fn new_entry(hash: Hash, owner: u64, clock: u64, height: u64, estimate: u64) -> Entry
+pub fn new_entry(hash: Hash, owner: u64, clock: u64, height: u64, estimate: u64) -> Entry
     ensures { λ r. ⌜ r ≡ new-entry hash owner clock height estimate ⌝ }
 {
     Entry {

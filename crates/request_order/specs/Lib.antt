@@ -1,0 +1,3 @@
+pub mod Bags
+pub mod Order
+pub mod Rows
