@@ -4,8 +4,6 @@ ghost use mathlib.Core.Path.{_≡_};
 ghost use Prim.Native.Nat.{_≤_};
 ghost use lib.ListN.{getD};
 ghost use Rattle.demo.specs.Book.{capped, capped-sum};
-ghost use Rattle.demo.specs.Lend.{blank};
-use model::Release;
 
 // What a report says: the reasons of its first two places, and for each of the ten reasons (place 0 is none) how many blocks and bytes.
 pub struct Counts {
@@ -71,16 +69,15 @@ fn nothing_gone(first: u64, second: u64) -> Counts
     }
 }
 
-// The first n places of a report.
-pub fn counted(report: [Release; 256], n: u64) -> Counts
-    ensures { λ r. ⌜ (r .first ≡ getD report 0 blank .reason) × (r .second ≡ getD report 1 blank .reason) ⌝ }
+// The first n places of a report, nine words each.
+pub fn counted(gone: [u64; 2304], n: usize) -> Counts
+    ensures { λ r. ⌜ (r .first ≡ getD gone 8 0) × (r .second ≡ getD gone 17 0) ⌝ }
 {
-    let mut c = nothing_gone(report[0].reason, report[1].reason);
+    let mut c = nothing_gone(gone[8], gone[17]);
     let mut i: usize = 0;
-    while i < 256 && (i as u64) < n {
-        let r = report[i];
-        let e = r.entry;
-        c = one_more(c, r.reason, e.estimate);
+    while i < 256 && i < n {
+        let k = 9 * i;
+        c = one_more(c, gone[k + 8], gone[k + 7]);
         i += 1;
     }
     c

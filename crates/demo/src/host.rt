@@ -4,14 +4,14 @@ ghost use Prim.Native.Nat.{_≤_};
 ghost use lib.ListN.{length};
 ghost use Rattle.model.specs.Hash.{hash};
 use crate::book::Book;
-use crate::lend::LetGoTally;
-use crate::line::begin;
-use crate::line::begin_alone;
-use crate::line::blocks;
-use crate::line::clock_of;
-use crate::line::finish;
-use crate::line::finish_alone;
 use heights::Height32;
+use lend::LetGoWords;
+use lines::line::begin;
+use lines::line::begin_alone;
+use lines::line::blocks;
+use lines::line::clock_of;
+use lines::line::finish;
+use lines::line::finish_alone;
 use model::Accepted;
 use model::Fetch;
 use model::Hash;
@@ -73,7 +73,7 @@ pub fn open(words: &mut [u64], time: u32)
     let r = window::open(words, s, &l, clock_of(time));
     begin_alone(time, b"open");
     blocks(0, 0);
-    let w = crate::say::accepted(r);
+    let w = lines::say::accepted(r);
     finish_alone(words, w);
 }
 
@@ -129,7 +129,7 @@ fn opened_by(r: Requested, n: u32) -> u32 {
 pub fn ask(words: &mut [u64], b: Book, time: u32, peer: u64, first: u32, n: u32) -> Book
     ensures { λ r. ⌜ (length (now (words .exit)) ≡ length (now (words .entry))) × (r .gone ≡ b .gone) ⌝ }
 {
-    let estimate = crate::line::estimate(words);
+    let estimate = lines::line::estimate(words);
     let hashes = hashes_from(first);
     let heights = heights_from(first);
     let k = at_most_eight(n);
@@ -147,7 +147,7 @@ pub fn ask(words: &mut [u64], b: Book, time: u32, peer: u64, first: u32, n: u32)
     );
     begin(time, b"mark_requested", peer);
     blocks(first, n);
-    let w = crate::say::requested(r);
+    let w = lines::say::requested(r);
     finish(words, w, peer);
     crate::book::opened(b, opened_by(r, n), estimate)
 }
@@ -165,12 +165,12 @@ fn opened_by_fetch(r: Fetch) -> u32 {
 pub fn fetch(words: &mut [u64], b: Book, time: u32, peer: u64, height: u32) -> Book
     ensures { λ r. ⌜ (length (now (words .exit)) ≡ length (now (words .entry))) × (r .gone ≡ b .gone) ⌝ }
 {
-    let estimate = crate::line::estimate(words);
+    let estimate = lines::line::estimate(words);
     let h = hash_of(height);
     let r = window::mark_owned_fetch(words, peer, h, height, false, ROOM, ROOM, clock_of(time));
     begin(time, b"mark_owned_fetch", peer);
     blocks(height, 1);
-    let w = crate::say::fetched(r);
+    let w = lines::say::fetched(r);
     finish(words, w, peer);
     crate::book::opened(b, opened_by_fetch(r), estimate)
 }
@@ -180,12 +180,13 @@ pub fn receive(words: &mut [u64], b: Book, time: u32, peer: u64, height: u32, by
     ensures { λ r. ⌜ (length (now (words .exit)) ≡ length (now (words .entry))) × (r .blocks ≡ b .blocks) × (r .bytes ≡ b .bytes) ⌝ }
 {
     let h = hash_of(height);
-    let l = crate::lend::mark_received_from(words, h, bytes, Source::From(peer), clock_of(time));
+    let l = lend::mark_received_from(words, h, bytes, Source::From(peer), clock_of(time));
     let r = l.answer;
-    let c = l.counts;
+    let gone = l.gone;
+    let c = crate::book::counted(gone, l.places);
     begin(time, b"mark_received_from", peer);
     blocks(height, 1);
-    let w = crate::say::received(r, c.second);
+    let w = lines::say::received(r, c.second);
     finish(words, w, peer);
     crate::book::let_go(b, c)
 }
@@ -195,23 +196,25 @@ pub fn reject(words: &mut [u64], b: Book, time: u32, peer: u64, height: u32) -> 
     ensures { λ r. ⌜ (length (now (words .exit)) ≡ length (now (words .entry))) × (r .blocks ≡ b .blocks) × (r .bytes ≡ b .bytes) ⌝ }
 {
     let h = hash_of(height);
-    let l = crate::lend::reject_delivery(words, h, Source::From(peer), clock_of(time));
+    let l = lend::reject_delivery(words, h, Source::From(peer), clock_of(time));
     let r = l.answer;
-    let c = l.counts;
+    let gone = l.gone;
+    let c = crate::book::counted(gone, l.places);
     begin(time, b"reject_delivery", peer);
     blocks(height, 1);
-    let w = crate::say::rejected(r);
+    let w = lines::say::rejected(r);
     finish(words, w, peer);
     crate::book::let_go(b, c)
 }
 
 // The rest of a line whose call lets go, and the book after it.
-fn close(words: &[u64], b: Book, l: LetGoTally) -> Book
+fn close(words: &[u64], b: Book, l: LetGoWords) -> Book
     ensures { λ r. ⌜ (r .blocks ≡ b .blocks) × (r .bytes ≡ b .bytes) ⌝ }
 {
     let r = l.answer;
-    let c = l.counts;
-    let w = crate::say::let_go(r, c.first);
+    let gone = l.gone;
+    let c = crate::book::counted(gone, l.places);
+    let w = lines::say::let_go(r, c.first);
     finish_alone(words, w);
     crate::book::let_go(b, c)
 }
@@ -219,7 +222,7 @@ fn close(words: &[u64], b: Book, l: LetGoTally) -> Book
 pub fn expire(words: &mut [u64], b: Book, time: u32) -> Book
     ensures { λ r. ⌜ (length (now (words .exit)) ≡ length (now (words .entry))) × (r .blocks ≡ b .blocks) × (r .bytes ≡ b .bytes) ⌝ }
 {
-    let l = crate::lend::expire_pending(words, clock_of(time));
+    let l = lend::expire_pending(words, clock_of(time));
     begin_alone(time, b"expire_pending");
     blocks(0, 0);
     close(words, b, l)
@@ -230,7 +233,7 @@ pub fn retry(words: &mut [u64], b: Book, time: u32, height: u32) -> Book
     ensures { λ r. ⌜ (length (now (words .exit)) ≡ length (now (words .entry))) × (r .blocks ≡ b .blocks) × (r .bytes ≡ b .bytes) ⌝ }
 {
     let h = hash_of(height);
-    let l = crate::lend::requeue_for_retry(words, h, Height32::Known(height), clock_of(time));
+    let l = lend::requeue_for_retry(words, h, Height32::Known(height), clock_of(time));
     begin_alone(time, b"requeue_for_retry");
     blocks(height, 1);
     close(words, b, l)
@@ -240,7 +243,7 @@ pub fn release(words: &mut [u64], b: Book, time: u32, height: u32) -> Book
     ensures { λ r. ⌜ (length (now (words .exit)) ≡ length (now (words .entry))) × (r .blocks ≡ b .blocks) × (r .bytes ≡ b .bytes) ⌝ }
 {
     let h = hash_of(height);
-    let l = crate::lend::release_pending(words, h, clock_of(time));
+    let l = lend::release_pending(words, h, clock_of(time));
     begin_alone(time, b"release_pending");
     blocks(height, 1);
     close(words, b, l)
@@ -250,7 +253,7 @@ pub fn release(words: &mut [u64], b: Book, time: u32, height: u32) -> Book
 pub fn retire(words: &mut [u64], b: Book, time: u32, height: u32) -> Book
     ensures { λ r. ⌜ (length (now (words .exit)) ≡ length (now (words .entry))) × (r .blocks ≡ b .blocks) × (r .bytes ≡ b .bytes) ⌝ }
 {
-    let l = crate::lend::retire_before(words, height, clock_of(time));
+    let l = lend::retire_before(words, height, clock_of(time));
     begin_alone(time, b"retire_before");
     blocks(height, 1);
     close(words, b, l)
@@ -269,7 +272,7 @@ pub fn drop_peer(words: &mut [u64], b: Book, time: u32, peer: u64) -> Book
     ensures { λ r. ⌜ (length (now (words .exit)) ≡ length (now (words .entry))) × (r .blocks ≡ b .blocks) × (r .bytes ≡ b .bytes) ⌝ }
 {
     let flags = all_but(peer);
-    let l = crate::lend::retain_owned_by(words, &flags);
+    let l = lend::retain_owned_by(words, &flags);
     begin(time, b"retain_owned_by (all but)", peer);
     blocks(0, 0);
     close(words, b, l)
@@ -292,7 +295,7 @@ pub fn look(words: &mut [u64], time: u32, next: u32, staged: u64)
     );
     begin_alone(time, b"observe_blocked");
     blocks(next, 1);
-    let w = crate::say::blocked(r);
+    let w = lines::say::blocked(r);
     finish_alone(words, w);
 }
 
@@ -303,7 +306,7 @@ pub fn hedge(words: &mut [u64], time: u32, owner: u64, alternate: u64, height: u
     let r = window::confirm_cold_front_hedge(words, owner, alternate, h);
     begin(time, b"confirm_cold_front_hedge", alternate);
     blocks(height, 1);
-    let w = crate::say::accepted(r);
+    let w = lines::say::accepted(r);
     finish(words, w, alternate);
 }
 
@@ -317,7 +320,7 @@ pub fn race(words: &mut [u64], time: u32, owner: u64, alternate: u64, first: u32
     let r = window::confirm_prefix_probe(words, owner, &hashes, &alternates, clock);
     begin(time, b"confirm_prefix_probe", alternate);
     blocks(first, 8);
-    let w = crate::say::accepted(r);
+    let w = lines::say::accepted(r);
     finish(words, w, alternate);
 }
 
@@ -327,7 +330,7 @@ pub fn fan_out(words: &mut [u64], time: u32, n: u64)
     let r = window::set_fanout_eligible_peers(words, n, clock_of(time));
     begin_alone(time, b"set_fanout_eligible_peers");
     blocks(0, 0);
-    let w = crate::say::accepted(r);
+    let w = lines::say::accepted(r);
     finish_alone(words, w);
 }
 
@@ -338,6 +341,6 @@ pub fn clear_preferred(words: &mut [u64], time: u32)
     let r = window::clear_preferred_peer(words);
     begin_alone(time, b"clear_preferred_peer");
     blocks(0, 0);
-    let w = crate::say::accepted(r);
+    let w = lines::say::accepted(r);
     finish_alone(words, w);
 }

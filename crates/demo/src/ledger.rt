@@ -3,10 +3,10 @@ ghost use Prim.Native.Nat.{_≤_};
 use crate::book::Book;
 use crate::book::plus;
 use crate::book::sum;
-use crate::print::fill;
-use crate::print::left;
-use crate::print::right;
-use crate::print::text;
+use lines::print::fill;
+use lines::print::left;
+use lines::print::right;
+use lines::print::text;
 
 fn numbers(blocks: u64, bytes: u64) {
     right(blocks, 8);
@@ -21,7 +21,7 @@ fn entry(name: &[u8], blocks: u64, bytes: u64) {
 
 fn by_reason(reason: u64, blocks: u64, bytes: u64) {
     let a = text(b"  let go: ");
-    let b = crate::say::reason(reason);
+    let b = lines::say::reason(reason);
     fill(a + b, 40);
     numbers(blocks, bytes);
 }
@@ -55,9 +55,9 @@ pub fn show(words: &[u64], b: Book) -> usize
     let m = g.bytes;
     let blocks = sum(l);
     let bytes = sum(m);
-    let waiting = crate::line::pending(words);
-    let waiting_bytes = crate::line::pending_bytes(words);
-    crate::line::title(b"The book                                  blocks       bytes");
+    let waiting = lines::line::pending(words);
+    let waiting_bytes = lines::line::pending_bytes(words);
+    lines::line::title(b"The book                                  blocks       bytes");
     entry(b"  opened", b.blocks, b.bytes);
     by_reasons(l, m);
     entry(b"  let go in all", blocks, bytes);

@@ -2,10 +2,6 @@
 mod book;
 mod host;
 mod ledger;
-mod lend;
-mod line;
-mod print;
-mod say;
 
 use book::Book;
 use host::ask;
@@ -15,7 +11,7 @@ use host::fetch;
 use host::look;
 use host::receive;
 use host::reject;
-use line::title;
+use lines::line::title;
 
 // ---- two races
 
@@ -157,7 +153,7 @@ fn much_later(words: &mut [u64], b: Book) -> Book {
 
 fn main() {
     let mut words: [u64; 4096] = [0; 4096];
-    line::heading();
+    lines::line::heading();
     let b = book::empty();
     let b = slow_first_block(&mut words, b);
     let b = hedge_lost(&mut words, b);

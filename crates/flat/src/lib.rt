@@ -105,18 +105,18 @@ pub fn of_accepted(a: Accepted) -> u64
     }
 }
 
+fn valued(refused: u64, value: u64) -> FlatNumber
+    ensures { λ r. ⌜ r ≡ record { refused = refused; value = value } ⌝ }
+{
+    FlatNumber { refused, value }
+}
+
 pub fn of_number(a: Number) -> FlatNumber
     ensures { λ r. ⌜ r ≡ number-flat (number-says a) ⌝ }
 {
     match a {
-        Number::Refused(n) => FlatNumber {
-            refused: n,
-            value: 0,
-        },
-        Number::Is(x) => FlatNumber {
-            refused: 0,
-            value: x,
-        },
+        Number::Refused(n) => valued(n, 0),
+        Number::Is(x) => valued(0, x),
     }
 }
 
@@ -124,18 +124,9 @@ pub fn of_truth(a: Truth) -> FlatNumber
     ensures { λ r. ⌜ r ≡ number-flat (truth-says a) ⌝ }
 {
     match a {
-        Truth::Refused(n) => FlatNumber {
-            refused: n,
-            value: 0,
-        },
-        Truth::Denied => FlatNumber {
-            refused: 0,
-            value: 0,
-        },
-        Truth::Affirmed => FlatNumber {
-            refused: 0,
-            value: 1,
-        },
+        Truth::Refused(n) => valued(n, 0),
+        Truth::Denied => valued(0, 0),
+        Truth::Affirmed => valued(0, 1),
     }
 }
 
@@ -143,18 +134,9 @@ pub fn of_requested(a: Requested) -> FlatNumber
     ensures { λ r. ⌜ r ≡ number-flat (requested-says a) ⌝ }
 {
     match a {
-        Requested::Refused(n) => FlatNumber {
-            refused: n,
-            value: 0,
-        },
-        Requested::Full => FlatNumber {
-            refused: 0,
-            value: 0,
-        },
-        Requested::Room => FlatNumber {
-            refused: 0,
-            value: 1,
-        },
+        Requested::Refused(n) => valued(n, 0),
+        Requested::Full => valued(0, 0),
+        Requested::Room => valued(0, 1),
     }
 }
 
@@ -162,26 +144,11 @@ pub fn of_fetch(a: Fetch) -> FlatNumber
     ensures { λ r. ⌜ r ≡ number-flat (fetch-says a) ⌝ }
 {
     match a {
-        Fetch::Refused(n) => FlatNumber {
-            refused: n,
-            value: 0,
-        },
-        Fetch::Held => FlatNumber {
-            refused: 0,
-            value: 0,
-        },
-        Fetch::Staged => FlatNumber {
-            refused: 0,
-            value: 1,
-        },
-        Fetch::Asked => FlatNumber {
-            refused: 0,
-            value: 2,
-        },
-        Fetch::NoCapacity => FlatNumber {
-            refused: 0,
-            value: 3,
-        },
+        Fetch::Refused(n) => valued(n, 0),
+        Fetch::Held => valued(0, 0),
+        Fetch::Staged => valued(0, 1),
+        Fetch::Asked => valued(0, 2),
+        Fetch::NoCapacity => valued(0, 3),
     }
 }
 

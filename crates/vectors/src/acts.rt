@@ -11,6 +11,9 @@ use crate::stream::get;
 use crate::stream::length_at;
 use crate::stream::on;
 use crate::stream::same_at;
+use lend::LetGoWords;
+use lend::ReceivedWords;
+use lend::RejectedWords;
 use model::Settings;
 
 fn low(x: u64) -> u32 {
@@ -115,120 +118,97 @@ fn look(words: &mut [u64], numbers: &[u64], at: u64) -> Said {
     said::blocked(flat::of_blocked(r))
 }
 
-fn received(words: &mut [u64], gone: &mut [u64], numbers: &[u64], at: u64) -> Said
-    requires { ⌜ length (now gone) ≡ 2304 ⌝ }
-{
+fn received(words: &mut [u64], numbers: &[u64], at: u64) -> ReceivedWords {
     let h = hash_at(numbers, at);
     let s = flat::source_of(get(numbers, on(at, 5)) != 0, get(numbers, on(at, 6)));
-    let r = letting_go::mark_received_from(
+    lend::mark_received_from(
         words,
-        256,
-        gone,
         h,
         get(numbers, on(at, 4)),
         s,
         get(numbers, on(at, 7)),
-    );
-    said::received(flat::of_received(r))
+    )
 }
 
-fn credited(words: &mut [u64], gone: &mut [u64], numbers: &[u64], at: u64) -> Said
-    requires { ⌜ length (now gone) ≡ 2304 ⌝ }
-{
+fn rejected(words: &mut [u64], numbers: &[u64], at: u64) -> RejectedWords {
+    let h = hash_at(numbers, at);
+    let s = flat::source_of(get(numbers, on(at, 4)) != 0, get(numbers, on(at, 5)));
+    lend::reject_delivery(words, h, s, get(numbers, on(at, 6)))
+}
+
+fn credited(words: &mut [u64], numbers: &[u64], at: u64) -> LetGoWords {
     let h = hash_at(numbers, at);
     let t = flat::height_of(get(numbers, on(at, 5)) != 0, low(get(numbers, on(at, 6))));
-    let r = letting_go::credit_delivery_from(
+    lend::credit_delivery_from(
         words,
-        256,
-        gone,
         h,
         get(numbers, on(at, 4)),
         t,
         get(numbers, on(at, 7)),
-    );
-    said::gone(flat::of_let_go(r))
+    )
 }
 
-fn rejected(words: &mut [u64], gone: &mut [u64], numbers: &[u64], at: u64) -> Said
-    requires { ⌜ length (now gone) ≡ 2304 ⌝ }
-{
-    let h = hash_at(numbers, at);
-    let s = flat::source_of(get(numbers, on(at, 4)) != 0, get(numbers, on(at, 5)));
-    let r = letting_go::reject_delivery(words, 256, gone, h, s, get(numbers, on(at, 6)));
-    said::rejected(flat::of_rejected(r))
-}
-
-fn expired(words: &mut [u64], gone: &mut [u64], numbers: &[u64], at: u64) -> Said
-    requires { ⌜ length (now gone) ≡ 2304 ⌝ }
-{
-    let r = letting_go::expire_pending(words, 256, gone, get(numbers, at));
-    said::gone(flat::of_let_go(r))
-}
-
-fn requeued(words: &mut [u64], gone: &mut [u64], numbers: &[u64], at: u64) -> Said
-    requires { ⌜ length (now gone) ≡ 2304 ⌝ }
-{
+fn requeued(words: &mut [u64], numbers: &[u64], at: u64) -> LetGoWords {
     let h = hash_at(numbers, at);
     let t = flat::height_of(get(numbers, on(at, 4)) != 0, low(get(numbers, on(at, 5))));
-    let r = letting_go::requeue_for_retry(words, 256, gone, h, t, get(numbers, on(at, 6)));
-    said::gone(flat::of_let_go(r))
+    lend::requeue_for_retry(words, h, t, get(numbers, on(at, 6)))
 }
 
-fn released(words: &mut [u64], gone: &mut [u64], numbers: &[u64], at: u64) -> Said
-    requires { ⌜ length (now gone) ≡ 2304 ⌝ }
-{
-    let r = letting_go::release_pending(
-        words,
-        256,
-        gone,
-        hash_at(numbers, at),
-        get(numbers, on(at, 4)),
-    );
-    said::gone(flat::of_let_go(r))
-}
-
-fn retired(words: &mut [u64], gone: &mut [u64], numbers: &[u64], at: u64) -> Said
-    requires { ⌜ length (now gone) ≡ 2304 ⌝ }
-{
-    let r = letting_go::retire_before(
-        words,
-        256,
-        gone,
-        low(get(numbers, at)),
-        get(numbers, on(at, 1)),
-    );
-    said::gone(flat::of_let_go(r))
-}
-
-fn retained(words: &mut [u64], gone: &mut [u64], numbers: &[u64], at: u64) -> Said
-    requires { ⌜ length (now gone) ≡ 2304 ⌝ }
-{
+fn retained(words: &mut [u64], numbers: &[u64], at: u64) -> LetGoWords {
     let mut flags: [u64; 256] = [0; 256];
     fill(&mut flags, numbers, on(at, 1));
-    let r = letting_go::retain_owned_by(words, 256, gone, &flags);
-    said::gone(flat::of_let_go(r))
+    lend::retain_owned_by(words, &flags)
 }
 
-fn lets_go(words: &mut [u64], gone: &mut [u64], numbers: &[u64], kind: u64, at: u64) -> Said
-    requires { ⌜ length (now gone) ≡ 2304 ⌝ }
-{
+fn lets_go(words: &mut [u64], numbers: &[u64], kind: u64, at: u64) -> LetGoWords {
     match kind {
-        4 => received(words, gone, numbers, at),
-        5 => credited(words, gone, numbers, at),
-        7 => rejected(words, gone, numbers, at),
-        8 => expired(words, gone, numbers, at),
-        9 => requeued(words, gone, numbers, at),
-        10 => released(words, gone, numbers, at),
-        11 => retired(words, gone, numbers, at),
-        _ => retained(words, gone, numbers, at),
+        5 => credited(words, numbers, at),
+        8 => lend::expire_pending(words, get(numbers, at)),
+        9 => requeued(words, numbers, at),
+        10 => lend::release_pending(words, hash_at(numbers, at), get(numbers, on(at, 4))),
+        11 => lend::retire_before(words, low(get(numbers, at)), get(numbers, on(at, 1))),
+        _ => retained(words, numbers, at),
     }
 }
 
-// With the recorded releases, so many words from a place on.
+// The answer, and whether the report is the recorded one, so many words from a place on.
+fn told(s: Said, gone: [u64; 2304], numbers: &[u64], at: u64, n: u64) -> Said {
+    said::with_report(s, same_at(&gone, numbers, at, n))
+}
+
 fn reports(words: &mut [u64], numbers: &[u64], kind: u64, at: u64, gone_at: u64, n: u64) -> Said {
-    let mut gone: [u64; 2304] = [0; 2304];
-    let s = lets_go(words, &mut gone, numbers, kind, at);
-    said::with_report(s, same_at(&gone, numbers, gone_at, n))
+    match kind {
+        4 => {
+            let l = received(words, numbers, at);
+            let r = l.answer;
+            let gone = l.gone;
+            told(
+                said::received(flat::of_received(r)),
+                gone,
+                numbers,
+                gone_at,
+                n,
+            )
+        }
+        7 => {
+            let l = rejected(words, numbers, at);
+            let r = l.answer;
+            let gone = l.gone;
+            told(
+                said::rejected(flat::of_rejected(r)),
+                gone,
+                numbers,
+                gone_at,
+                n,
+            )
+        }
+        _ => {
+            let l = lets_go(words, numbers, kind, at);
+            let r = l.answer;
+            let gone = l.gone;
+            told(said::gone(flat::of_let_go(r)), gone, numbers, gone_at, n)
+        }
+    }
 }
 
 fn changes(words: &mut [u64], numbers: &[u64], kind: u64, at: u64) -> Said {

@@ -1,5 +1,5 @@
 // Replays the calls that the oracle recorded (stdin; VECTORS.md says how they were made): each answer, each report and all words after each call
-// are the recorded ones. Calls that let go go through `letting_go`, which the public ones lend a report to and do nothing else.
+// are the recorded ones. Every call is a public one; those that let go are lent a report by crates/lend.
 mod acts;
 mod asks;
 mod said;
@@ -107,16 +107,28 @@ fn replay(words: &mut [u64], expected: &mut [u64], numbers: &[u64]) -> Count {
     }
 }
 
-fn main() {
-    let mut bytes: [u8; 600000] = [0; 600000];
-    let mut numbers: [u64; 200000] = [0; 200000];
-    let n = io::read_full(0, &mut bytes);
-    read_numbers(&bytes[..n], &mut numbers);
+fn replayed(numbers: &[u64]) -> Count {
     let mut words: [u64; 4096] = [0; 4096];
     let mut expected: [u64; 4096] = [0; 4096];
-    let c = replay(&mut words, &mut expected, &numbers);
+    replay(&mut words, &mut expected, numbers)
+}
+
+fn report(c: Count) {
     io::print_decimal(1, c.calls);
     io::write_all(1, b" calls, ");
     io::print_decimal(1, c.differing);
     io::write_all(1, b" differ from the recorded ones\n");
+}
+
+fn run(bytes: &mut [u8], numbers: &mut [u64]) {
+    let n = io::read_full(0, bytes);
+    read_numbers(&bytes[..n], numbers);
+    let c = replayed(numbers);
+    report(c);
+}
+
+fn main() {
+    let mut bytes: [u8; 600000] = [0; 600000];
+    let mut numbers: [u64; 200000] = [0; 200000];
+    run(&mut bytes, &mut numbers);
 }

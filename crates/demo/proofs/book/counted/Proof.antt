@@ -7,16 +7,16 @@ use Rattle.demo.proofs.book.counted.Statement.{statement}
 use Rattle.demo.proofs.book.counted.Tie as tie
 
 abbrev Inv-loop : tie.InvT-loop
-Inv-loop n report c₀ i₀ c i = (c .first ≡ c₀ .first) × (c .second ≡ c₀ .second)
+Inv-loop n gone c₀ i₀ c i = (c .first ≡ c₀ .first) × (c .second ≡ c₀ .second)
 
 abbrev μ-loop : tie.MeasureT-loop
-μ-loop n report c₀ i₀ c i = 256 - i
+μ-loop n gone c₀ i₀ c i = 256 - i
 
-element-copy-out-nothing-gone : tie.Need-element-copy-out-nothing-gone Inv-loop μ-loop
-element-copy-out-nothing-gone c = search needs
+array-read-nothing-gone : tie.Need-array-read-nothing-gone Inv-loop μ-loop
+array-read-nothing-gone c = search needs
 
-element-copy-out-nothing-gone-2 : tie.Need-element-copy-out-nothing-gone-2 Inv-loop μ-loop
-element-copy-out-nothing-gone-2 c = search needs
+array-read-nothing-gone-2 : tie.Need-array-read-nothing-gone-2 Inv-loop μ-loop
+array-read-nothing-gone-2 c = search needs
 
 nothing-gone-requires : tie.Need-nothing-gone-requires Inv-loop μ-loop
 nothing-gone-requires c κs = search needs
@@ -24,11 +24,26 @@ nothing-gone-requires c κs = search needs
 loop-holds : tie.Need-loop-holds Inv-loop μ-loop
 loop-holds c = search needs
 
-mul-r : tie.Need-mul-r Inv-loop μ-loop
-mul-r c = omega arith
+mul-k : tie.Need-mul-k Inv-loop μ-loop
+mul-k c = omega arith
 
-array-copy-out-r : tie.Need-array-copy-out-r Inv-loop μ-loop
-array-copy-out-r c = search needs
+add-one-more : tie.Need-add-one-more Inv-loop μ-loop
+add-one-more c = omega arith
+
+mul-one-more : tie.Need-mul-one-more Inv-loop μ-loop
+mul-one-more c = omega arith
+
+array-read-one-more : tie.Need-array-read-one-more Inv-loop μ-loop
+array-read-one-more c = omega arith
+
+add-one-more-2 : tie.Need-add-one-more-2 Inv-loop μ-loop
+add-one-more-2 c = omega arith
+
+mul-one-more-2 : tie.Need-mul-one-more-2 Inv-loop μ-loop
+mul-one-more-2 c = omega arith
+
+array-read-one-more-2 : tie.Need-array-read-one-more-2 Inv-loop μ-loop
+array-read-one-more-2 c = omega arith
 
 one-more-requires : tie.Need-one-more-requires Inv-loop μ-loop
 one-more-requires c κs = search needs
@@ -49,20 +64,4 @@ returns-2 : tie.Need-returns-2 Inv-loop μ-loop
 returns-2 c = search needs
 
 pub counted-spec : {M : Type 1} → statement M
-counted-spec =
-    tie.close
-    (tie.spec
-    Inv-loop
-    μ-loop
-    element-copy-out-nothing-gone
-    element-copy-out-nothing-gone-2
-    nothing-gone-requires
-    loop-holds
-    mul-r
-    array-copy-out-r
-    one-more-requires
-    add-i
-    loop-less
-    loop-again
-    returns
-    returns-2)
+counted-spec = tie.close (tie.spec Inv-loop μ-loop array-read-nothing-gone array-read-nothing-gone-2 nothing-gone-requires loop-holds mul-k add-one-more mul-one-more array-read-one-more add-one-more-2 mul-one-more-2 array-read-one-more-2 one-more-requires add-i loop-less loop-again returns returns-2)
