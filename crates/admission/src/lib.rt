@@ -1,4 +1,4 @@
-// What a call is refused by, before anything of the window is read for it: 01's numbers, the lowest first.
+// What a call is refused by: 01's numbers, the lowest first, or 0. Of a request's list, 7 and 8, see `request_calls`.
 ghost use mathlib.Core.Path.{_≡_};
 ghost use mathlib.Core.Bool.{true, false};
 ghost use Rattle.model.specs.Numbers.{clock-ok};
@@ -21,7 +21,7 @@ fn clock_fits(last: u64, clock: u64) -> bool
 }
 
 // What a call or query without a clock and without a report is refused by: 1, 2, 6, or 0 for none.
-pub fn admits(words: &[u64], peers: bool) -> u64
+pub fn refused_by(words: &[u64], peers: bool) -> u64
     ensures { λ r. ⌜ r ≡ window-refusal (checking false timeless peers nothing) (now (words .entry)) 0 ⌝ }
 {
     if words.len() != 4096 {
@@ -37,7 +37,7 @@ pub fn admits(words: &[u64], peers: bool) -> u64
 }
 
 // The same with a clock: 1, 2, 4, 6, or 0 for none.
-pub fn admits_at(words: &[u64], clock: u64, peers: bool) -> u64
+pub fn refused_by_at(words: &[u64], clock: u64, peers: bool) -> u64
     ensures { λ r. ⌜ r ≡ window-refusal (checking false (at clock) peers nothing) (now (words .entry)) 0 ⌝ }
 {
     if words.len() != 4096 {
@@ -94,7 +94,7 @@ fn keys_fit(keys: &[u64]) -> bool
 }
 
 // What an opening is refused by: 1, 4 by the bound alone, 5, 6, or 0 for none. Of the words it reads nothing.
-pub fn admits_opening(words: &[u64], clock: u64, b: Settings, keys: &[u64]) -> u64
+pub fn opening_refused_by(words: &[u64], clock: u64, b: Settings, keys: &[u64]) -> u64
     ensures { λ r. ⌜ r ≡ opening-refusal clock b (now (keys .entry)) (now (words .entry)) ⌝ }
 {
     if words.len() != 4096 {
@@ -115,7 +115,7 @@ pub fn admits_opening(words: &[u64], clock: u64, b: Settings, keys: &[u64]) -> u
 // ---- calls that let go
 
 // What a call that lets go, without a clock, is refused by: 1, 2, 3, 6, or 0 for none. `room` is the report's length.
-pub fn admits_report_timeless(words: &[u64], room: usize, peers: bool) -> u64
+pub fn timeless_report_refused_by(words: &[u64], room: usize, peers: bool) -> u64
     ensures { λ r. ⌜ r ≡ window-refusal (checking true timeless peers nothing) (now (words .entry)) room ⌝ }
 {
     if words.len() != 4096 {
@@ -134,10 +134,10 @@ pub fn admits_report_timeless(words: &[u64], room: usize, peers: bool) -> u64
 }
 
 // The same with a clock: 1, 2, 3, 4, 6, or 0 for none.
-pub fn admits_report(words: &[u64], room: usize, clock: u64, peers: bool) -> u64
+pub fn report_refused_by(words: &[u64], room: usize, clock: u64, peers: bool) -> u64
     ensures { λ r. ⌜ r ≡ window-refusal (checking true (at clock) peers nothing) (now (words .entry)) room ⌝ }
 {
-    let k = admits_report_timeless(words, room, true);
+    let k = timeless_report_refused_by(words, room, true);
     if k != 0 {
         return k;
     }
@@ -152,10 +152,10 @@ pub fn admits_report(words: &[u64], room: usize, clock: u64, peers: bool) -> u64
 }
 
 // The same with a clock and a body: 1, 2, 3, 4, 6, 9, or 0 for none.
-pub fn admits_body(words: &[u64], room: usize, clock: u64, peers: bool, bytes: u64) -> u64
+pub fn body_refused_by(words: &[u64], room: usize, clock: u64, peers: bool, bytes: u64) -> u64
     ensures { λ r. ⌜ r ≡ window-refusal (checking true (at clock) peers (body-refusal bytes)) (now (words .entry)) room ⌝ }
 {
-    let n = admits_report(words, room, clock, peers);
+    let n = report_refused_by(words, room, clock, peers);
     if n != 0 {
         return n;
     }

@@ -135,8 +135,8 @@ fn next_turn(words: &[u64], next: u64, clock: u64) -> Turn
     if 2 <= state_races::hedged_count(words) {
         return idle();
     }
-    let lowest = state_queue::at_height(words, next);
-    let Front::At(e) = lowest else {
+    let front = state_queue::at_height(words, next);
+    let Front::At(e) = front else {
         return idle();
     };
     let s = state::get_settings(words);

@@ -46,7 +46,7 @@ pub fn release_pending(
         × (places (let-go-says r) ≤ 256)
         ⌝ }
 {
-    let k = admission::admits_report(words, room, clock, true);
+    let k = admission::report_refused_by(words, room, clock, true);
     if k != 0 {
         return LetGo::Refused(k);
     }
@@ -72,7 +72,7 @@ pub fn requeue_for_retry(
         × (places (let-go-says r) ≤ 256)
         ⌝ }
 {
-    let k = admission::admits_report(words, room, clock, true);
+    let k = admission::report_refused_by(words, room, clock, true);
     if k != 0 {
         return LetGo::Refused(k);
     }
@@ -100,7 +100,7 @@ pub fn reject_delivery(
         ⌝ }
 {
     let p = admission::source_ok(source);
-    let k = admission::admits_report(words, room, clock, p);
+    let k = admission::report_refused_by(words, room, clock, p);
     if k != 0 {
         return Rejected::Refused(k);
     }
@@ -120,7 +120,7 @@ pub fn expire_pending(words: &mut [u64], room: usize, gone: &mut [u64], clock: u
         × (places (let-go-says r) ≤ 256)
         ⌝ }
 {
-    let k = admission::admits_report(words, room, clock, true);
+    let k = admission::report_refused_by(words, room, clock, true);
     if k != 0 {
         return LetGo::Refused(k);
     }
@@ -145,7 +145,7 @@ pub fn retire_before(
         × (places (let-go-says r) ≤ 256)
         ⌝ }
 {
-    let k = admission::admits_report(words, room, clock, true);
+    let k = admission::report_refused_by(words, room, clock, true);
     if k != 0 {
         return LetGo::Refused(k);
     }
@@ -164,7 +164,7 @@ pub fn retain_owned_by(words: &mut [u64], room: usize, gone: &mut [u64], flags: 
         × (places (let-go-says r) ≤ 256)
         ⌝ }
 {
-    let k = admission::admits_report_timeless(words, room, flags.len() == 256);
+    let k = admission::timeless_report_refused_by(words, room, flags.len() == 256);
     if k != 0 {
         return LetGo::Refused(k);
     }
@@ -193,7 +193,7 @@ pub fn credit_delivery_from(
         × (places (let-go-says r) ≤ 256)
         ⌝ }
 {
-    let k = admission::admits_report(words, room, clock, source <= 255);
+    let k = admission::report_refused_by(words, room, clock, source <= 255);
     if k != 0 {
         return LetGo::Refused(k);
     }
@@ -222,7 +222,7 @@ pub fn mark_received_from(
         ⌝ }
 {
     let p = admission::source_ok(source);
-    let k = admission::admits_body(words, room, clock, p, bytes);
+    let k = admission::body_refused_by(words, room, clock, p, bytes);
     if k != 0 {
         return Received::Refused(k);
     }

@@ -28,7 +28,7 @@ pub fn clear_preferred_peer(words: &mut [u64]) -> Accepted
         × (now (words .exit) ≡ perform (changes clears-preferred) (now (words .entry)) [] .words)
         ⌝ }
 {
-    let n = admission::admits(words, true);
+    let n = admission::refused_by(words, true);
     if n != 0 {
         return Accepted::Refused(n);
     }
@@ -43,7 +43,7 @@ pub fn set_fanout_eligible_peers(words: &mut [u64], n: u64, clock: u64) -> Accep
         × (now (words .exit) ≡ perform (changes (sets-fanout clock n)) (now (words .entry)) [] .words)
         ⌝ }
 {
-    let k = admission::admits_at(words, clock, true);
+    let k = admission::refused_by_at(words, clock, true);
     if k != 0 {
         return Accepted::Refused(k);
     }
@@ -59,7 +59,7 @@ pub fn credit_duplicate_delivery(words: &mut [u64], h: Hash, source: u64) -> Acc
         × (now (words .exit) ≡ perform (changes (credits-duplicate h source)) (now (words .entry)) [] .words)
         ⌝ }
 {
-    let n = admission::admits(words, source <= 255);
+    let n = admission::refused_by(words, source <= 255);
     if n != 0 {
         return Accepted::Refused(n);
     }
@@ -74,7 +74,7 @@ pub fn mark_peer_unresponsive(words: &mut [u64], source: u64, clock: u64) -> Acc
         × (now (words .exit) ≡ perform (changes (marks-unresponsive clock source)) (now (words .entry)) [] .words)
         ⌝ }
 {
-    let k = admission::admits_at(words, clock, source <= 255);
+    let k = admission::refused_by_at(words, clock, source <= 255);
     if k != 0 {
         return Accepted::Refused(k);
     }
@@ -99,7 +99,7 @@ pub fn mark_owned_fetch(
         × (now (words .exit) ≡ perform (changes (fetches clock owner h height «is_staged» «byte_headroom» «count_headroom»)) (now (words .entry)) [] .words)
         ⌝ }
 {
-    let k = admission::admits_at(words, clock, owner <= 255);
+    let k = admission::refused_by_at(words, clock, owner <= 255);
     if k != 0 {
         return Fetch::Refused(k);
     }
@@ -126,7 +126,7 @@ pub fn open(words: &mut [u64], settings: Settings, keys: &[u64], clock: u64) -> 
         × (now (words .exit) ≡ perform (opens clock settings (now (keys .entry))) (now (words .entry)) [] .words)
         ⌝ }
 {
-    let n = admission::admits_opening(words, clock, settings, keys);
+    let n = admission::opening_refused_by(words, clock, settings, keys);
     if n != 0 {
         return Accepted::Refused(n);
     }
@@ -150,7 +150,7 @@ pub fn mark_requested(
         × (now (words .exit) ≡ perform (changes (requests clock owner (now (hashes .entry)) (now (heights .entry)) next «byte_headroom» «count_headroom»)) (now (words .entry)) [] .words)
         ⌝ }
 {
-    let k = admission::admits_at(words, clock, owner <= 255);
+    let k = admission::refused_by_at(words, clock, owner <= 255);
     if k != 0 {
         return Requested::Refused(k);
     }
@@ -170,12 +170,12 @@ pub fn mark_requested(
     )
 }
 
-// ---- calls that let go, with the lent report. All branching is in `letting_go`; on a refusal the writer writes nothing. tools/lets writes their proofs.
+// ---- calls that let go, with the lent report
 
 // The entry of a hash goes, since its block is no longer wanted.
 //
-// This and the seven calls below are lent a report. All branching is in `letting_go`; the writer runs always, and on a refusal it writes
-// nothing. Its count is the answer's own, so that it is not used again.
+// In this and the seven calls below all branching is in `letting_go`, which lays what went into `gone`, nine words for each of 256 places; the writer
+// runs always, and on a refusal it writes nothing. Its count is the answer's own, so that it is not used again. tools/lets writes the proofs.
 pub fn release_pending(words: &mut [u64], report: &mut [Release], h: Hash, clock: u64) -> LetGo
     ensures { λ r. ⌜
         (let-go-says r ≡ perform (changes (releases clock h)) (now (words .entry)) (now (report .entry)) .answer)
@@ -338,7 +338,7 @@ pub fn confirm_cold_front_hedge(words: &mut [u64], owner: u64, alternate: u64, h
         × (now (words .exit) ≡ perform (changes (confirms-hedge owner alternate h)) (now (words .entry)) [] .words)
         ⌝ }
 {
-    let n = admission::admits(words, (owner <= 255) & (alternate <= 255));
+    let n = admission::refused_by(words, (owner <= 255) & (alternate <= 255));
     if n != 0 {
         return Accepted::Refused(n);
     }
@@ -361,7 +361,7 @@ pub fn observe_blocked(
         × (now (words .exit) ≡ perform (changes (observes clock (look (wide next) frontier busy staged (wide highest)))) (now (words .entry)) [] .words)
         ⌝ }
 {
-    let k = admission::admits_at(words, clock, true);
+    let k = admission::refused_by_at(words, clock, true);
     if k != 0 {
         return Blocked::Refused(k);
     }
@@ -386,7 +386,7 @@ pub fn confirm_prefix_probe(
         ⌝ }
 {
     let seats = admission::alternates_ok(alternates);
-    let n = admission::admits_at(words, clock, (owner <= 255) & seats);
+    let n = admission::refused_by_at(words, clock, (owner <= 255) & seats);
     if n != 0 {
         return Accepted::Refused(n);
     }

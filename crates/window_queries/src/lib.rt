@@ -24,7 +24,7 @@ use model::Truth;
 pub fn pending_len(words: &[u64]) -> Number
     ensures { λ r. ⌜ number-says r ≡ perform (queries (reads pending-len)) (now (words .entry)) [] .answer ⌝ }
 {
-    let n = admission::admits(words, true);
+    let n = admission::refused_by(words, true);
     if n != 0 {
         return Number::Refused(n);
     }
@@ -36,7 +36,7 @@ pub fn pending_len(words: &[u64]) -> Number
 pub fn pending_bytes(words: &[u64]) -> Number
     ensures { λ r. ⌜ number-says r ≡ perform (queries (reads pending-bytes)) (now (words .entry)) [] .answer ⌝ }
 {
-    let n = admission::admits(words, true);
+    let n = admission::refused_by(words, true);
     if n != 0 {
         return Number::Refused(n);
     }
@@ -48,7 +48,7 @@ pub fn pending_bytes(words: &[u64]) -> Number
 pub fn effective_peer_inflight(words: &[u64]) -> Number
     ensures { λ r. ⌜ number-says r ≡ perform (queries (reads peer-inflight)) (now (words .entry)) [] .answer ⌝ }
 {
-    let n = admission::admits(words, true);
+    let n = admission::refused_by(words, true);
     if n != 0 {
         return Number::Refused(n);
     }
@@ -60,7 +60,7 @@ pub fn effective_peer_inflight(words: &[u64]) -> Number
 pub fn active_downloading_peers(words: &[u64]) -> Number
     ensures { λ r. ⌜ number-says r ≡ perform (queries (reads active-peers)) (now (words .entry)) [] .answer ⌝ }
 {
-    let n = admission::admits(words, true);
+    let n = admission::refused_by(words, true);
     if n != 0 {
         return Number::Refused(n);
     }
@@ -72,7 +72,7 @@ pub fn active_downloading_peers(words: &[u64]) -> Number
 pub fn stall_decay_floor(words: &[u64]) -> Number
     ensures { λ r. ⌜ number-says r ≡ perform (queries (reads decay-floor)) (now (words .entry)) [] .answer ⌝ }
 {
-    let n = admission::admits(words, true);
+    let n = admission::refused_by(words, true);
     if n != 0 {
         return Number::Refused(n);
     }
@@ -84,7 +84,7 @@ pub fn stall_decay_floor(words: &[u64]) -> Number
 pub fn request_cursor(words: &[u64]) -> Number
     ensures { λ r. ⌜ number-says r ≡ perform (queries (reads request-cursor)) (now (words .entry)) [] .answer ⌝ }
 {
-    let n = admission::admits(words, true);
+    let n = admission::refused_by(words, true);
     if n != 0 {
         return Number::Refused(n);
     }
@@ -96,7 +96,7 @@ pub fn request_cursor(words: &[u64]) -> Number
 pub fn ewma_block_bytes(words: &[u64]) -> Number
     ensures { λ r. ⌜ number-says r ≡ perform (queries (reads ewma-block-bytes)) (now (words .entry)) [] .answer ⌝ }
 {
-    let n = admission::admits(words, true);
+    let n = admission::refused_by(words, true);
     if n != 0 {
         return Number::Refused(n);
     }
@@ -108,7 +108,7 @@ pub fn ewma_block_bytes(words: &[u64]) -> Number
 pub fn pending_count_for(words: &[u64], seat: u64) -> Number
     ensures { λ r. ⌜ number-says r ≡ perform (queries (asks-count-for seat)) (now (words .entry)) [] .answer ⌝ }
 {
-    let n = admission::admits(words, seat <= 255);
+    let n = admission::refused_by(words, seat <= 255);
     if n != 0 {
         return Number::Refused(n);
     }
@@ -120,7 +120,7 @@ pub fn pending_count_for(words: &[u64], seat: u64) -> Number
 pub fn has_request_capacity(words: &[u64], byte_headroom: u64, count_headroom: u64) -> Truth
     ensures { λ r. ⌜ truth-says r ≡ perform (queries (asks-request-capacity «byte_headroom» «count_headroom»)) (now (words .entry)) [] .answer ⌝ }
 {
-    let n = admission::admits(words, true);
+    let n = admission::refused_by(words, true);
     if n != 0 {
         return Truth::Refused(n);
     }
@@ -134,7 +134,7 @@ pub fn has_request_capacity(words: &[u64], byte_headroom: u64, count_headroom: u
 pub fn contains_pending(words: &[u64], h: Hash) -> Truth
     ensures { λ r. ⌜ truth-says r ≡ perform (queries (asks-contains h)) (now (words .entry)) [] .answer ⌝ }
 {
-    let n = admission::admits(words, true);
+    let n = admission::refused_by(words, true);
     if n != 0 {
         return Truth::Refused(n);
     }
@@ -148,7 +148,7 @@ pub fn contains_pending(words: &[u64], h: Hash) -> Truth
 pub fn is_downloading(words: &[u64], seat: u64) -> Truth
     ensures { λ r. ⌜ truth-says r ≡ perform (queries (asks-downloading seat)) (now (words .entry)) [] .answer ⌝ }
 {
-    let n = admission::admits(words, seat <= 255);
+    let n = admission::refused_by(words, seat <= 255);
     if n != 0 {
         return Truth::Refused(n);
     }
@@ -162,7 +162,7 @@ pub fn is_downloading(words: &[u64], seat: u64) -> Truth
 pub fn effective_owner_timeout(words: &[u64]) -> Number
     ensures { λ r. ⌜ number-says r ≡ perform (queries (reads owner-timeout)) (now (words .entry)) [] .answer ⌝ }
 {
-    let n = admission::admits(words, true);
+    let n = admission::refused_by(words, true);
     if n != 0 {
         return Number::Refused(n);
     }
@@ -174,7 +174,7 @@ pub fn effective_owner_timeout(words: &[u64]) -> Number
 pub fn hedge_offered(words: &[u64], seat: u64, h: Hash) -> Truth
     ensures { λ r. ⌜ truth-says r ≡ perform (queries (asks-hedge-offered seat h)) (now (words .entry)) [] .answer ⌝ }
 {
-    let n = admission::admits(words, seat <= 255);
+    let n = admission::refused_by(words, seat <= 255);
     if n != 0 {
         return Truth::Refused(n);
     }
@@ -188,7 +188,7 @@ pub fn hedge_offered(words: &[u64], seat: u64, h: Hash) -> Truth
 pub fn peer_has_expired_pending(words: &[u64], seat: u64, clock: u64) -> Truth
     ensures { λ r. ⌜ truth-says r ≡ perform (queries (asks-has-expired seat clock)) (now (words .entry)) [] .answer ⌝ }
 {
-    let n = admission::admits_at(words, clock, seat <= 255);
+    let n = admission::refused_by_at(words, clock, seat <= 255);
     if n != 0 {
         return Truth::Refused(n);
     }
@@ -202,7 +202,7 @@ pub fn peer_has_expired_pending(words: &[u64], seat: u64, clock: u64) -> Truth
 pub fn peer_in_staller_cooldown(words: &[u64], seat: u64, clock: u64) -> Truth
     ensures { λ r. ⌜ truth-says r ≡ perform (queries (asks-cooldown seat clock)) (now (words .entry)) [] .answer ⌝ }
 {
-    let n = admission::admits_at(words, clock, seat <= 255);
+    let n = admission::refused_by_at(words, clock, seat <= 255);
     if n != 0 {
         return Truth::Refused(n);
     }
@@ -216,7 +216,7 @@ pub fn peer_in_staller_cooldown(words: &[u64], seat: u64, clock: u64) -> Truth
 pub fn pending_high_water(words: &[u64]) -> Pair
     ensures { λ r. ⌜ pair-says r ≡ perform (queries (reads pending-high-water)) (now (words .entry)) [] .answer ⌝ }
 {
-    let n = admission::admits(words, true);
+    let n = admission::refused_by(words, true);
     if n != 0 {
         return Pair::Refused(n);
     }
@@ -229,7 +229,7 @@ pub fn pending_high_water(words: &[u64]) -> Pair
 pub fn stalling_peer(words: &[u64]) -> PerhapsPair
     ensures { λ r. ⌜ perhaps-pair-says r ≡ perform (queries (reads stalling-peer)) (now (words .entry)) [] .answer ⌝ }
 {
-    let n = admission::admits(words, true);
+    let n = admission::refused_by(words, true);
     if n != 0 {
         return PerhapsPair::Refused(n);
     }
@@ -240,7 +240,7 @@ pub fn stalling_peer(words: &[u64]) -> PerhapsPair
 pub fn stall_timeout(words: &[u64]) -> Number
     ensures { λ r. ⌜ number-says r ≡ perform (queries (reads stall-timeout)) (now (words .entry)) [] .answer ⌝ }
 {
-    let n = admission::admits(words, true);
+    let n = admission::refused_by(words, true);
     if n != 0 {
         return Number::Refused(n);
     }
@@ -252,7 +252,7 @@ pub fn stall_timeout(words: &[u64]) -> Number
 pub fn max_pending_blocks(words: &[u64]) -> Number
     ensures { λ r. ⌜ number-says r ≡ perform (queries (reads max-pending-blocks)) (now (words .entry)) [] .answer ⌝ }
 {
-    let n = admission::admits(words, true);
+    let n = admission::refused_by(words, true);
     if n != 0 {
         return Number::Refused(n);
     }
@@ -264,7 +264,7 @@ pub fn max_pending_blocks(words: &[u64]) -> Number
 pub fn min_peers_for_fanout(words: &[u64]) -> Number
     ensures { λ r. ⌜ number-says r ≡ perform (queries (reads min-peers-for-fanout)) (now (words .entry)) [] .answer ⌝ }
 {
-    let n = admission::admits(words, true);
+    let n = admission::refused_by(words, true);
     if n != 0 {
         return Number::Refused(n);
     }
@@ -276,7 +276,7 @@ pub fn min_peers_for_fanout(words: &[u64]) -> Number
 pub fn fanout_active(words: &[u64]) -> Truth
     ensures { λ r. ⌜ truth-says r ≡ perform (queries (reads fanout-active)) (now (words .entry)) [] .answer ⌝ }
 {
-    let n = admission::admits(words, true);
+    let n = admission::refused_by(words, true);
     if n != 0 {
         return Truth::Refused(n);
     }
@@ -291,7 +291,7 @@ pub fn fanout_active(words: &[u64]) -> Truth
 pub fn expired_pending_capacity(words: &[u64], clock: u64) -> Pair
     ensures { λ r. ⌜ pair-says r ≡ perform (queries (asks-expired-capacity clock)) (now (words .entry)) [] .answer ⌝ }
 {
-    let n = admission::admits_at(words, clock, true);
+    let n = admission::refused_by_at(words, clock, true);
     if n != 0 {
         return Pair::Refused(n);
     }
@@ -342,7 +342,7 @@ fn perhaps_batch(b: Batch) -> PerhapsPair
 pub fn preferred_peer(words: &[u64]) -> Perhaps
     ensures { λ r. ⌜ perhaps-says r ≡ perform (queries (reads preferred-peer)) (now (words .entry)) [] .answer ⌝ }
 {
-    let n = admission::admits(words, true);
+    let n = admission::refused_by(words, true);
     if n != 0 {
         return Perhaps::Refused(n);
     }
@@ -354,7 +354,7 @@ pub fn preferred_peer(words: &[u64]) -> Perhaps
 pub fn pending_owner(words: &[u64], h: Hash) -> Perhaps
     ensures { λ r. ⌜ perhaps-says r ≡ perform (queries (asks-owner h)) (now (words .entry)) [] .answer ⌝ }
 {
-    let n = admission::admits(words, true);
+    let n = admission::refused_by(words, true);
     if n != 0 {
         return Perhaps::Refused(n);
     }
@@ -366,7 +366,7 @@ pub fn pending_owner(words: &[u64], h: Hash) -> Perhaps
 pub fn active_prefix_probe_started_at(words: &[u64]) -> Perhaps
     ensures { λ r. ⌜ perhaps-says r ≡ perform (queries (reads probe-start)) (now (words .entry)) [] .answer ⌝ }
 {
-    let n = admission::admits(words, true);
+    let n = admission::refused_by(words, true);
     if n != 0 {
         return Perhaps::Refused(n);
     }
@@ -378,7 +378,7 @@ pub fn active_prefix_probe_started_at(words: &[u64]) -> Perhaps
 pub fn front_interval_ewma_ms(words: &[u64]) -> Perhaps
     ensures { λ r. ⌜ perhaps-says r ≡ perform (queries (reads front-interval-ewma-ms)) (now (words .entry)) [] .answer ⌝ }
 {
-    let n = admission::admits(words, true);
+    let n = admission::refused_by(words, true);
     if n != 0 {
         return Perhaps::Refused(n);
     }
@@ -390,7 +390,7 @@ pub fn front_interval_ewma_ms(words: &[u64]) -> Perhaps
 pub fn owner_queue_start(words: &[u64], seat: u64) -> Perhaps
     ensures { λ r. ⌜ perhaps-says r ≡ perform (queries (asks-queue-start seat)) (now (words .entry)) [] .answer ⌝ }
 {
-    let n = admission::admits(words, seat <= 255);
+    let n = admission::refused_by(words, seat <= 255);
     if n != 0 {
         return Perhaps::Refused(n);
     }
@@ -407,7 +407,7 @@ pub fn compute_request_capacity(
 ) -> PerhapsPair
     ensures { λ r. ⌜ perhaps-pair-says r ≡ perform (queries (asks-compute-capacity source «byte_headroom» «count_headroom»)) (now (words .entry)) [] .answer ⌝ }
 {
-    let n = admission::admits(words, source <= 255);
+    let n = admission::refused_by(words, source <= 255);
     if n != 0 {
         return PerhapsPair::Refused(n);
     }
@@ -419,7 +419,7 @@ pub fn compute_request_capacity(
 pub fn probe_offered(words: &[u64], source: u64, h: Hash) -> Truth
     ensures { λ r. ⌜ truth-says r ≡ perform (queries (asks-probe-offered source h)) (now (words .entry)) [] .answer ⌝ }
 {
-    let n = admission::admits(words, source <= 255);
+    let n = admission::refused_by(words, source <= 255);
     if n != 0 {
         return Truth::Refused(n);
     }
@@ -434,7 +434,7 @@ pub fn probe_offered(words: &[u64], source: u64, h: Hash) -> Truth
 pub fn prefix_probe_plan(words: &[u64]) -> Plan
     ensures { λ r. ⌜ plan-says r (hash-part (perform (queries (reads probe-plan)) (now (words .entry)) [] .answer)) ≡ perform (queries (reads probe-plan)) (now (words .entry)) [] .answer ⌝ }
 {
-    let n = admission::admits(words, true);
+    let n = admission::refused_by(words, true);
     if n != 0 {
         return Plan::Refused(n);
     }
@@ -446,7 +446,7 @@ pub fn prefix_probe_plan(words: &[u64]) -> Plan
 pub fn prefix_probe_hashes(words: &[u64]) -> [[u64; 4]; 8]
     ensures { λ r. ⌜ rows-words 8 r ≡ pad 32 0 (hash-part (perform (queries (reads probe-plan)) (now (words .entry)) [] .answer)) ⌝ }
 {
-    let n = admission::admits(words, true);
+    let n = admission::refused_by(words, true);
     if n != 0 {
         return [[0; 4]; 8];
     }

@@ -17,8 +17,8 @@ use Rattle.heights.specs.Heights.{wide}
 use Rattle.letting_go.proofs.credit_delivery_from.Statement.{statement}
 use Rattle.letting_go.proofs.credit_delivery_from.Tie as tie
 
-admits-report-requires : tie.Need-admits-report-requires
-admits-report-requires c κs = search needs
+report-refused-by-requires : tie.Need-report-refused-by-requires
+report-refused-by-requires c κs = search needs
 
 same-length : tie.Need-same-length
 same-length c = refl
@@ -28,7 +28,7 @@ returns c =
     let a = c .before .before .before .before .before .args in
     let ws = a .words .now in
     let x : Change = credits (a .clock) (a .h) (a .source) (wide (a .height)) in
-    let k = c .before .admits-report in
+    let k = c .before .report-refused-by in
     lets-refused x ws (a .room) (k .result) (k .ensures) (a .gone .now) (c .if1 .taken)
 
 widened-requires : tie.Need-widened-requires
@@ -40,7 +40,7 @@ credit-delivery-from-requires c κs =
     let a = c .before .before .before .before .before .before .before .before .args in
     let ws = a .words .now in
     let x : Change = credits (a .clock) (a .h) (a .source) (wide (a .height)) in
-    let k = c .before .before .before .before .admits-report in
+    let k = c .before .before .before .before .report-refused-by in
     let g = admitted (checks x) ws (a .room) (k .result) (k .ensures) (c .before .before .before .if1 .left) in
     (g .whole, (g .sound-at, (c .before .before .before .before .before .before .before .before .pre, seat-le (a .source) (g .passes .peers))))
 
@@ -58,7 +58,7 @@ returns-2 c =
     let a = c .before .before .before .before .before .before .before .before .before .before .before .before .before .before .before .before .before .args in
     let ws = a .words .now in
     let x : Change = credits (a .clock) (a .h) (a .source) (wide (a .height)) in
-    let k = c .before .before .before .before .before .before .before .before .before .before .before .before .before .admits-report in
+    let k = c .before .before .before .before .before .before .before .before .before .before .before .before .before .report-refused-by in
     let p = c .before .before .before .before .before .before .before .before .credit-delivery-from in
     let s = c .before .before .gone-at in
     let height = c .before .before .before .before .before .before .before .before .before .before .before .widened .result in
@@ -68,4 +68,4 @@ returns-2 c =
     (subst (λ (y : Height). releases-of (p .result) (p .last .1 .0) ≡ credit-delivery-from (a .h) (a .source) y (a .clock) (window-of ws) .gone) named (p .ensures .2)) _ (s .ensures .0)
 
 pub credit-delivery-from-spec : {M : Type 1} → statement M
-credit-delivery-from-spec = tie.close (tie.spec admits-report-requires same-length returns widened-requires credit-delivery-from-requires gone-at-requires same-length-2 same-length-3 returns-2)
+credit-delivery-from-spec = tie.close (tie.spec report-refused-by-requires same-length returns widened-requires credit-delivery-from-requires gone-at-requires same-length-2 same-length-3 returns-2)

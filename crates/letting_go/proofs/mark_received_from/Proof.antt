@@ -18,8 +18,8 @@ use Rattle.letting_go.proofs.mark_received_from.Tie as tie
 source-ok-requires : tie.Need-source-ok-requires
 source-ok-requires c κs = search needs
 
-admits-body-requires : tie.Need-admits-body-requires
-admits-body-requires c κs = search needs
+body-refused-by-requires : tie.Need-body-refused-by-requires
+body-refused-by-requires c κs = search needs
 
 same-length : tie.Need-same-length
 same-length c = refl
@@ -29,7 +29,7 @@ returns c =
     let a = c .before .before .before .before .before .before .args in
     let ws = a .words .now in
     let x : Change = receives (a .clock) (a .h) (a .bytes) (a .source) in
-    let k = c .before .admits-body in
+    let k = c .before .body-refused-by in
     let e = subst (λ (p : Bool). k .result ≡ window-refusal (checking true (at (a .clock)) p (body-refusal (a .bytes))) ws (a .room)) (c .before .before .before .source-ok .ensures) (k .ensures) in
     lets-refused x ws (a .room) (k .result) e (a .gone .now) (c .if1 .taken)
 
@@ -39,7 +39,7 @@ mark-received-from-requires c κs =
     let a = c .before .before .before .before .before .before .before .before .args in
     let ws = a .words .now in
     let x : Change = receives (a .clock) (a .h) (a .bytes) (a .source) in
-    let k = c .before .before .before .admits-body in
+    let k = c .before .before .before .body-refused-by in
     let e = subst (λ (p : Bool). k .result ≡ window-refusal (checking true (at (a .clock)) p (body-refusal (a .bytes))) ws (a .room)) (c .before .before .before .before .before .source-ok .ensures) (k .ensures) in
     let g = admitted (checks x) ws (a .room) (k .result) e (c .before .before .if1 .left) in
     (g .whole, (g .sound-at, (c .before .before .before .before .before .before .before .before .pre, (body-le (a .bytes) (window-of ws) (g .passes .content), g .passes .peers))))
@@ -58,7 +58,7 @@ returns-2 c =
     let a = c .before .before .before .before .before .before .before .before .before .before .before .before .before .before .before .before .before .args in
     let ws = a .words .now in
     let x : Change = receives (a .clock) (a .h) (a .bytes) (a .source) in
-    let k = c .before .before .before .before .before .before .before .before .before .before .before .before .admits-body in
+    let k = c .before .before .before .before .before .before .before .before .before .before .before .before .body-refused-by in
     let e = subst (λ (p : Bool). k .result ≡ window-refusal (checking true (at (a .clock)) p (body-refusal (a .bytes))) ws (a .room)) (c .before .before .before .before .before .before .before .before .before .before .before .before .before .before .source-ok .ensures) (k .ensures) in
     let p = c .before .before .before .before .before .before .before .before .mark-received-from in
     let s = c .before .before .set-clock in
@@ -66,4 +66,4 @@ returns-2 c =
     lets-at x ws (a .room) (k .result) e (c .before .before .before .before .before .before .before .before .before .before .before .if1 .left) refl went (p .last .1 .0) (p .ensures .1) (a .clock) refl (p .last .0) (s .last .0) (p .ensures .2) (s .ensures) (p .ensures .3) _ (p .ensures .0)
 
 pub mark-received-from-spec : {M : Type 1} → statement M
-mark-received-from-spec = tie.close (tie.spec source-ok-requires admits-body-requires same-length returns mark-received-from-requires set-clock-requires same-length-2 same-length-3 returns-2)
+mark-received-from-spec = tie.close (tie.spec source-ok-requires body-refused-by-requires same-length returns mark-received-from-requires set-clock-requires same-length-2 same-length-3 returns-2)

@@ -18,8 +18,8 @@ use Rattle.letting_go.proofs.reject_delivery.Tie as tie
 source-ok-requires : tie.Need-source-ok-requires
 source-ok-requires c κs = search needs
 
-admits-report-requires : tie.Need-admits-report-requires
-admits-report-requires c κs = search needs
+report-refused-by-requires : tie.Need-report-refused-by-requires
+report-refused-by-requires c κs = search needs
 
 same-length : tie.Need-same-length
 same-length c = refl
@@ -29,7 +29,7 @@ returns c =
     let a = c .before .before .before .before .before .before .args in
     let ws = a .words .now in
     let x : Change = rejects (a .clock) (a .h) (a .source) in
-    let k = c .before .admits-report in
+    let k = c .before .report-refused-by in
     let e = subst (λ (p : Bool). k .result ≡ window-refusal (checking true (at (a .clock)) p nothing) ws (a .room)) (c .before .before .before .source-ok .ensures) (k .ensures) in
     lets-refused x ws (a .room) (k .result) e (a .gone .now) (c .if1 .taken)
 
@@ -39,7 +39,7 @@ reject-delivery-requires c κs =
     let a = c .before .before .before .before .before .before .before .before .args in
     let ws = a .words .now in
     let x : Change = rejects (a .clock) (a .h) (a .source) in
-    let k = c .before .before .before .admits-report in
+    let k = c .before .before .before .report-refused-by in
     let e = subst (λ (p : Bool). k .result ≡ window-refusal (checking true (at (a .clock)) p nothing) ws (a .room)) (c .before .before .before .before .before .source-ok .ensures) (k .ensures) in
     let g = admitted (checks x) ws (a .room) (k .result) e (c .before .before .if1 .left) in
     (g .whole, (g .sound-at, c .before .before .before .before .before .before .before .before .pre))
@@ -58,7 +58,7 @@ returns-2 c =
     let a = c .before .before .before .before .before .before .before .before .before .before .before .before .before .before .before .before .before .args in
     let ws = a .words .now in
     let x : Change = rejects (a .clock) (a .h) (a .source) in
-    let k = c .before .before .before .before .before .before .before .before .before .before .before .before .admits-report in
+    let k = c .before .before .before .before .before .before .before .before .before .before .before .before .report-refused-by in
     let e = subst (λ (p : Bool). k .result ≡ window-refusal (checking true (at (a .clock)) p nothing) ws (a .room)) (c .before .before .before .before .before .before .before .before .before .before .before .before .before .before .source-ok .ensures) (k .ensures) in
     let p = c .before .before .before .before .before .before .before .before .reject-delivery in
     let s = c .before .before .set-clock in
@@ -66,4 +66,4 @@ returns-2 c =
     lets-at x ws (a .room) (k .result) e (c .before .before .before .before .before .before .before .before .before .before .before .if1 .left) refl went (p .last .1 .0) (rejected-few (a .h) (a .source) (a .clock) (window-of ws)) (a .clock) refl (p .last .0) (s .last .0) (p .ensures .1) (s .ensures) (p .ensures .2) _ (p .ensures .0)
 
 pub reject-delivery-spec : {M : Type 1} → statement M
-reject-delivery-spec = tie.close (tie.spec source-ok-requires admits-report-requires same-length returns reject-delivery-requires set-clock-requires same-length-2 same-length-3 returns-2)
+reject-delivery-spec = tie.close (tie.spec source-ok-requires report-refused-by-requires same-length returns reject-delivery-requires set-clock-requires same-length-2 same-length-3 returns-2)

@@ -13,8 +13,8 @@ use Rattle.letting_go.specs.Letting.{lets-refused, lets-timeless, retain
 use Rattle.letting_go.proofs.retain_owned_by.Statement.{statement}
 use Rattle.letting_go.proofs.retain_owned_by.Tie as tie
 
-admits-report-timeless-requires : tie.Need-admits-report-timeless-requires
-admits-report-timeless-requires c κs = search needs
+timeless-report-refused-by-requires : tie.Need-timeless-report-refused-by-requires
+timeless-report-refused-by-requires c κs = search needs
 
 same-length : tie.Need-same-length
 same-length c = refl
@@ -24,7 +24,7 @@ returns c =
     let a = c .before .before .before .before .before .before .args in
     let ws = a .words .now in
     let x : Change = retains (a .flags .now) in
-    let k = c .before .admits-report-timeless in
+    let k = c .before .timeless-report-refused-by in
     lets-refused x ws (a .room) (k .result) (k .ensures) (a .gone .now) (c .if1 .taken)
 
 retain-owned-by-requires : tie.Need-retain-owned-by-requires
@@ -33,7 +33,7 @@ retain-owned-by-requires c κs =
     let ws = a .words .now in
     let w = window-of ws in
     let x : Change = retains (a .flags .now) in
-    let k = c .before .before .before .admits-report-timeless in
+    let k = c .before .before .before .timeless-report-refused-by in
     let g = admitted (checks x) ws (a .room) (k .result) (k .ensures) (c .before .before .if1 .left) in
     (g .whole, (sound-ranged (w .clock) w (g .sound), (sound-roles (w .clock) w (g .sound), (c .before .before .before .before .before .before .before .before .pre, eqb-true (length (a .flags .now)) 256 (g .passes .peers)))))
 
@@ -48,9 +48,9 @@ returns-2 c =
     let a = c .before .before .before .before .before .before .before .before .before .before .before .before .before .args in
     let ws = a .words .now in
     let x : Change = retains (a .flags .now) in
-    let k = c .before .before .before .before .before .before .before .before .admits-report-timeless in
+    let k = c .before .before .before .before .before .before .before .before .timeless-report-refused-by in
     let p = c .before .before .before .before .retain-owned-by in
     lets-timeless x ws (a .room) (k .result) (k .ensures) (c .before .before .before .before .before .before .before .if1 .left) refl (p .result) (p .last .1 .0) (p .ensures .0) refl (p .last .0) (p .ensures .1) (retain-clock (a .flags .now) (window-of ws)) (p .ensures .2) _ refl
 
 pub retain-owned-by-spec : {M : Type 1} → statement M
-retain-owned-by-spec = tie.close (tie.spec admits-report-timeless-requires same-length returns retain-owned-by-requires same-length-2 same-length-3 returns-2)
+retain-owned-by-spec = tie.close (tie.spec timeless-report-refused-by-requires same-length returns retain-owned-by-requires same-length-2 same-length-3 returns-2)

@@ -7,8 +7,8 @@ use borrow.Author.Needs.{needs}
 use Rattle.window.proofs.clear_preferred_peer.Statement.{statement}
 use Rattle.window.proofs.clear_preferred_peer.Tie as tie
 
-admits-requires : tie.Need-admits-requires
-admits-requires c κs = search needs
+refused-by-requires : tie.Need-refused-by-requires
+refused-by-requires c κs = search needs
 
 same-length : tie.Need-same-length
 same-length c = refl
@@ -18,8 +18,8 @@ returns c =
     let a = c .before .before .before .before .args in
     let ws = a .words .now in
     let x : Change = clears-preferred in
-    let n = c .before .admits .result in
-    let e = c .before .admits .ensures in
+    let n = c .before .refused-by .result in
+    let e = c .before .refused-by .ensures in
     refused-so (changes x) ws n e (c .if1 .taken)
 
 clear-preferred-peer-requires : tie.Need-clear-preferred-peer-requires
@@ -27,8 +27,8 @@ clear-preferred-peer-requires c κs =
     let a = c .before .before .before .before .before .args in
     let ws = a .words .now in
     let x : Change = clears-preferred in
-    let n = c .before .before .admits .result in
-    let e = c .before .before .admits .ensures in
+    let n = c .before .before .refused-by .result in
+    let e = c .before .before .refused-by .ensures in
     admitted (checks x) ws 0 n e (c .before .if1 .left) .whole
 
 same-length-2 : tie.Need-same-length-2
@@ -39,9 +39,9 @@ returns-2 c =
     let a = c .before .before .before .before .before .before .before .before .args in
     let ws = a .words .now in
     let x : Change = clears-preferred in
-    let n = c .before .before .before .before .before .admits .result in
-    let e = c .before .before .before .before .before .admits .ensures in
+    let n = c .before .before .before .before .before .refused-by .result in
+    let e = c .before .before .before .before .before .refused-by .ensures in
     preferred-so ws (c .before .before .clear-preferred-peer .last .0) n e (c .before .before .before .before .if1 .left) (c .before .before .clear-preferred-peer .ensures)
 
 pub clear-preferred-peer-spec : {M : Type 1} → statement M
-clear-preferred-peer-spec = tie.close (tie.spec admits-requires same-length returns clear-preferred-peer-requires same-length-2 returns-2)
+clear-preferred-peer-spec = tie.close (tie.spec refused-by-requires same-length returns clear-preferred-peer-requires same-length-2 returns-2)

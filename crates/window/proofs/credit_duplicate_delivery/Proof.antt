@@ -7,8 +7,8 @@ use borrow.Author.Needs.{needs}
 use Rattle.window.proofs.credit_duplicate_delivery.Statement.{statement}
 use Rattle.window.proofs.credit_duplicate_delivery.Tie as tie
 
-admits-requires : tie.Need-admits-requires
-admits-requires c κs = search needs
+refused-by-requires : tie.Need-refused-by-requires
+refused-by-requires c κs = search needs
 
 same-length : tie.Need-same-length
 same-length c = refl
@@ -18,8 +18,8 @@ returns c =
     let a = c .before .before .before .before .args in
     let ws = a .words .now in
     let x : Change = credits-duplicate (a .h) (a .source) in
-    let n = c .before .admits .result in
-    let e = c .before .admits .ensures in
+    let n = c .before .refused-by .result in
+    let e = c .before .refused-by .ensures in
     refused-so (changes x) ws n e (c .if1 .taken)
 
 credit-duplicate-delivery-requires : tie.Need-credit-duplicate-delivery-requires
@@ -27,8 +27,8 @@ credit-duplicate-delivery-requires c κs =
     let a = c .before .before .before .before .before .args in
     let ws = a .words .now in
     let x : Change = credits-duplicate (a .h) (a .source) in
-    let n = c .before .before .admits .result in
-    let e = c .before .before .admits .ensures in
+    let n = c .before .before .refused-by .result in
+    let e = c .before .before .refused-by .ensures in
     admitted (checks x) ws 0 n e (c .before .if1 .left) .whole
 
 same-length-2 : tie.Need-same-length-2
@@ -39,9 +39,9 @@ returns-2 c =
     let a = c .before .before .before .before .before .before .before .before .args in
     let ws = a .words .now in
     let x : Change = credits-duplicate (a .h) (a .source) in
-    let n = c .before .before .before .before .before .admits .result in
-    let e = c .before .before .before .before .before .admits .ensures in
+    let n = c .before .before .before .before .before .refused-by .result in
+    let e = c .before .before .before .before .before .refused-by .ensures in
     duplicate-so (a .h) (a .source) ws (c .before .before .credit-duplicate-delivery .last .0) n e (c .before .before .before .before .if1 .left) (c .before .before .credit-duplicate-delivery .ensures)
 
 pub credit-duplicate-delivery-spec : {M : Type 1} → statement M
-credit-duplicate-delivery-spec = tie.close (tie.spec admits-requires same-length returns credit-duplicate-delivery-requires same-length-2 returns-2)
+credit-duplicate-delivery-spec = tie.close (tie.spec refused-by-requires same-length returns credit-duplicate-delivery-requires same-length-2 returns-2)

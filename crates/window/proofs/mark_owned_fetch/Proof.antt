@@ -13,8 +13,8 @@ use borrow.Author.Needs.{needs}
 use Rattle.window.proofs.mark_owned_fetch.Statement.{statement}
 use Rattle.window.proofs.mark_owned_fetch.Tie as tie
 
-admits-at-requires : tie.Need-admits-at-requires
-admits-at-requires c κs = search needs
+refused-by-at-requires : tie.Need-refused-by-at-requires
+refused-by-at-requires c κs = search needs
 
 same-length : tie.Need-same-length
 same-length c = refl
@@ -24,8 +24,8 @@ returns c =
     let a = c .before .before .before .before .args in
     let ws = a .words .now in
     let x : Change = fetches (a .clock) (a .owner) (a .h) (a .height) (a .is-staged) (a .byte-headroom) (a .count-headroom) in
-    let n = c .before .admits-at .result in
-    let e = c .before .admits-at .ensures in
+    let n = c .before .refused-by-at .result in
+    let e = c .before .refused-by-at .ensures in
     refused-so (changes x) ws n e (c .if1 .taken)
 
 mark-owned-fetch-requires : tie.Need-mark-owned-fetch-requires
@@ -34,8 +34,8 @@ mark-owned-fetch-requires c κs =
     let a = c .before .before .before .before .before .args in
     let ws = a .words .now in
     let x : Change = fetches (a .clock) (a .owner) (a .h) (a .height) (a .is-staged) (a .byte-headroom) (a .count-headroom) in
-    let n = c .before .before .admits-at .result in
-    let e = c .before .before .admits-at .ensures in
+    let n = c .before .before .refused-by-at .result in
+    let e = c .before .before .refused-by-at .ensures in
     let g = admitted (checks x) ws 0 n e (c .before .if1 .left) in
     (g .whole, (g .sound-at, seat-le (a .owner) (g .passes .peers)))
 
@@ -50,9 +50,9 @@ returns-2 c =
     let a = c .before .before .before .before .before .before .before .before .before .before .before .before .args in
     let ws = a .words .now in
     let x : Change = fetches (a .clock) (a .owner) (a .h) (a .height) (a .is-staged) (a .byte-headroom) (a .count-headroom) in
-    let n = c .before .before .before .before .before .before .before .before .before .admits-at .result in
-    let e = c .before .before .before .before .before .before .before .before .before .admits-at .ensures in
+    let n = c .before .before .before .before .before .before .before .before .before .refused-by-at .result in
+    let e = c .before .before .before .before .before .before .before .before .before .refused-by-at .ensures in
     fetch-so (a .clock) (a .owner) (a .h) (a .height) (a .is-staged) (a .byte-headroom) (a .count-headroom) ws (c .before .before .before .before .before .before .mark-owned-fetch .last .0) (c .before .before .set-clock .last .0) n e (c .before .before .before .before .before .before .before .before .if1 .left) (fetch-says (c .before .before .before .before .before .before .mark-owned-fetch .result)) (c .before .before .before .before .before .before .mark-owned-fetch .ensures .0) (c .before .before .before .before .before .before .mark-owned-fetch .ensures .1) (c .before .before .set-clock .ensures)
 
 pub mark-owned-fetch-spec : {M : Type 1} → statement M
-mark-owned-fetch-spec = tie.close (tie.spec admits-at-requires same-length returns mark-owned-fetch-requires set-clock-requires same-length-2 returns-2)
+mark-owned-fetch-spec = tie.close (tie.spec refused-by-at-requires same-length returns mark-owned-fetch-requires set-clock-requires same-length-2 returns-2)

@@ -13,8 +13,8 @@ use borrow.Author.Needs.{needs}
 use Rattle.window.proofs.mark_peer_unresponsive.Statement.{statement}
 use Rattle.window.proofs.mark_peer_unresponsive.Tie as tie
 
-admits-at-requires : tie.Need-admits-at-requires
-admits-at-requires c κs = search needs
+refused-by-at-requires : tie.Need-refused-by-at-requires
+refused-by-at-requires c κs = search needs
 
 same-length : tie.Need-same-length
 same-length c = refl
@@ -24,8 +24,8 @@ returns c =
     let a = c .before .before .before .before .args in
     let ws = a .words .now in
     let x : Change = marks-unresponsive (a .clock) (a .source) in
-    let n = c .before .admits-at .result in
-    let e = c .before .admits-at .ensures in
+    let n = c .before .refused-by-at .result in
+    let e = c .before .refused-by-at .ensures in
     refused-so (changes x) ws n e (c .if1 .taken)
 
 mark-peer-unresponsive-requires : tie.Need-mark-peer-unresponsive-requires
@@ -34,8 +34,8 @@ mark-peer-unresponsive-requires c κs =
     let a = c .before .before .before .before .before .args in
     let ws = a .words .now in
     let x : Change = marks-unresponsive (a .clock) (a .source) in
-    let n = c .before .before .admits-at .result in
-    let e = c .before .before .admits-at .ensures in
+    let n = c .before .before .refused-by-at .result in
+    let e = c .before .before .refused-by-at .ensures in
     let g = admitted (checks x) ws 0 n e (c .before .if1 .left) in
     (g .whole, (omega (arith, seat-le (a .source) (g .passes .peers)), (g .sound-at .clock, g .sound .keys .most (a .source))))
 
@@ -50,9 +50,9 @@ returns-2 c =
     let a = c .before .before .before .before .before .before .before .before .before .before .before .before .args in
     let ws = a .words .now in
     let x : Change = marks-unresponsive (a .clock) (a .source) in
-    let n = c .before .before .before .before .before .before .before .before .before .admits-at .result in
-    let e = c .before .before .before .before .before .before .before .before .before .admits-at .ensures in
+    let n = c .before .before .before .before .before .before .before .before .before .refused-by-at .result in
+    let e = c .before .before .before .before .before .before .before .before .before .refused-by-at .ensures in
     unresponsive-so (a .clock) (a .source) ws (c .before .before .before .before .before .before .mark-peer-unresponsive .last .0) (c .before .before .set-clock .last .0) n e (c .before .before .before .before .before .before .before .before .if1 .left) (c .before .before .before .before .before .before .mark-peer-unresponsive .ensures) (c .before .before .set-clock .ensures)
 
 pub mark-peer-unresponsive-spec : {M : Type 1} → statement M
-mark-peer-unresponsive-spec = tie.close (tie.spec admits-at-requires same-length returns mark-peer-unresponsive-requires set-clock-requires same-length-2 returns-2)
+mark-peer-unresponsive-spec = tie.close (tie.spec refused-by-at-requires same-length returns mark-peer-unresponsive-requires set-clock-requires same-length-2 returns-2)

@@ -6,8 +6,8 @@ use borrow.Author.Needs.{needs}
 use Rattle.window.proofs.mark_requested.Statement.{statement}
 use Rattle.window.proofs.mark_requested.Tie as tie
 
-admits-at-requires : tie.Need-admits-at-requires
-admits-at-requires c κs = search needs
+refused-by-at-requires : tie.Need-refused-by-at-requires
+refused-by-at-requires c κs = search needs
 
 same-length : tie.Need-same-length
 same-length c = refl
@@ -15,13 +15,13 @@ same-length c = refl
 returns : tie.Need-returns
 returns c =
     let a = c .before .before .before .before .before .before .args in
-    let k = c .before .admits-at in
+    let k = c .before .refused-by-at in
     request-refused (a .clock) (a .owner) (a .hashes .now) (a .heights .now) (a .next) (a .byte-headroom) (a .count-headroom) (a .words .now) (k .result) (k .ensures) (c .if1 .taken)
 
 request-refusal-requires : tie.Need-request-refusal-requires
 request-refusal-requires c κs =
     let a = c .before .before .before .before .before .before .before .args in
-    let k = c .before .before .admits-at in
+    let k = c .before .before .refused-by-at in
     request-whole (a .clock) (a .owner) (a .hashes .now) (a .heights .now) (a .next) (a .byte-headroom) (a .count-headroom) (a .words .now) (k .result) (k .ensures) (c .before .if1 .left)
 
 same-length-2 : tie.Need-same-length-2
@@ -30,14 +30,14 @@ same-length-2 c = refl
 returns-2 : tie.Need-returns-2
 returns-2 c =
     let a = c .before .before .before .before .before .before .before .before .before .args in
-    let k = c .before .before .before .before .admits-at in
+    let k = c .before .before .before .before .refused-by-at in
     let n = c .before .request-refusal in
     list-refused (a .clock) (a .owner) (a .hashes .now) (a .heights .now) (a .next) (a .byte-headroom) (a .count-headroom) (a .words .now) (k .result) (k .ensures) (c .before .before .before .if1 .left) (n .result) (n .ensures) (c .if2 .taken)
 
 request-requires : tie.Need-request-requires
 request-requires c κs =
     let a = c .before .before .before .before .before .before .before .before .before .before .args in
-    let k = c .before .before .before .before .before .admits-at in
+    let k = c .before .before .before .before .before .refused-by-at in
     let n = c .before .before .request-refusal in
     request-ready (a .clock) (a .owner) (a .hashes .now) (a .heights .now) (a .next) (a .byte-headroom) (a .count-headroom) (a .words .now) (k .result) (k .ensures) (c .before .before .before .before .if1 .left) (n .result) (n .ensures) (c .before .if2 .left)
 
@@ -47,7 +47,7 @@ same-length-3 c = search needs
 returns-3 : tie.Need-returns-3
 returns-3 c =
     let a = c .before .before .before .before .before .before .before .before .before .before .before .before .before .args in
-    let k = c .before .before .before .before .before .before .before .before .admits-at in
+    let k = c .before .before .before .before .before .before .before .before .refused-by-at in
     let n = c .before .before .before .before .before .request-refusal in
     let q = c .before .before .request in
     request-so (a .clock) (a .owner) (a .hashes .now) (a .heights .now) (a .next) (a .byte-headroom) (a .count-headroom) (a .words .now) (k .result) (k .ensures) (c .before .before .before .before .before .before .before .if1 .left) (n .result) (n .ensures) (c .before .before .before .before .if2 .left) (requested-says (q .result)) (q .last .0) (q .ensures .0) (q .ensures .1)
@@ -55,4 +55,4 @@ returns-3 c =
 pub mark-requested-spec : {M : Type 1} → statement M
 mark-requested-spec =
     tie.close
-    (tie.spec admits-at-requires same-length returns request-refusal-requires same-length-2 returns-2 request-requires same-length-3 returns-3)
+    (tie.spec refused-by-at-requires same-length returns request-refusal-requires same-length-2 returns-2 request-requires same-length-3 returns-3)

@@ -6,17 +6,17 @@ use borrow.Author.Needs.{needs}
 use Rattle.window_queries.proofs.effective_peer_inflight.Statement.{statement}
 use Rattle.window_queries.proofs.effective_peer_inflight.Tie as tie
 
-admits-requires : tie.Need-admits-requires
-admits-requires c κs = search needs
+refused-by-requires : tie.Need-refused-by-requires
+refused-by-requires c κs = search needs
 
 returns : tie.Need-returns
-returns c = query-refused _ _ _ (c .before .admits .ensures) (c .if1 .taken)
+returns c = query-refused _ _ _ (c .before .refused-by .ensures) (c .if1 .taken)
 
 effective-peer-inflight-requires : tie.Need-effective-peer-inflight-requires
-effective-peer-inflight-requires c κs = admitted _ _ 0 _ (c .before .admits .ensures) (c .if1 .left) .whole .long
+effective-peer-inflight-requires c κs = admitted _ _ 0 _ (c .before .refused-by .ensures) (c .if1 .left) .whole .long
 
 returns-2 : tie.Need-returns-2
-returns-2 c = query-answered _ _ _ _ (c .before .before .admits .ensures) (c .before .if1 .left) (ap number (c .effective-peer-inflight .ensures))
+returns-2 c = query-answered _ _ _ _ (c .before .before .refused-by .ensures) (c .before .if1 .left) (ap number (c .effective-peer-inflight .ensures))
 
 pub effective-peer-inflight-spec : {M : Type 1} → statement M
-effective-peer-inflight-spec = tie.close (tie.spec admits-requires returns effective-peer-inflight-requires returns-2)
+effective-peer-inflight-spec = tie.close (tie.spec refused-by-requires returns effective-peer-inflight-requires returns-2)

@@ -6,21 +6,21 @@ use borrow.Author.Needs.{needs}
 use Rattle.window_queries.proofs.expired_pending_capacity.Statement.{statement}
 use Rattle.window_queries.proofs.expired_pending_capacity.Tie as tie
 
-admits-at-requires : tie.Need-admits-at-requires
-admits-at-requires c κs = search needs
+refused-by-at-requires : tie.Need-refused-by-at-requires
+refused-by-at-requires c κs = search needs
 
 returns : tie.Need-returns
-returns c = query-refused _ _ _ (c .before .admits-at .ensures) (c .if1 .taken)
+returns c = query-refused _ _ _ (c .before .refused-by-at .ensures) (c .if1 .taken)
 
 expired-pending-capacity-requires : tie.Need-expired-pending-capacity-requires
 unfolding read-clock
 expired-pending-capacity-requires c κs =
-    let g = admitted _ _ 0 _ (c .before .admits-at .ensures) (c .if1 .left) in
+    let g = admitted _ _ 0 _ (c .before .refused-by-at .ensures) (c .if1 .left) in
     (g .whole, g .sound-at)
 
 returns-2 : tie.Need-returns-2
 unfolding read-clock
-returns-2 c = query-answered _ _ _ _ (c .before .before .admits-at .ensures) (c .before .if1 .left) (λ i. pair (c .expired-pending-capacity .ensures .0 i) (c .expired-pending-capacity .ensures .1 i))
+returns-2 c = query-answered _ _ _ _ (c .before .before .refused-by-at .ensures) (c .before .if1 .left) (λ i. pair (c .expired-pending-capacity .ensures .0 i) (c .expired-pending-capacity .ensures .1 i))
 
 pub expired-pending-capacity-spec : {M : Type 1} → statement M
-expired-pending-capacity-spec = tie.close (tie.spec admits-at-requires returns expired-pending-capacity-requires returns-2)
+expired-pending-capacity-spec = tie.close (tie.spec refused-by-at-requires returns expired-pending-capacity-requires returns-2)

@@ -7,25 +7,25 @@ use borrow.Author.Needs.{needs}
 use Rattle.window_queries.proofs.peer_has_expired_pending.Statement.{statement}
 use Rattle.window_queries.proofs.peer_has_expired_pending.Tie as tie
 
-admits-at-requires : tie.Need-admits-at-requires
-admits-at-requires c κs = search needs
+refused-by-at-requires : tie.Need-refused-by-at-requires
+refused-by-at-requires c κs = search needs
 
 returns : tie.Need-returns
-returns c = query-refused _ _ _ (c .before .admits-at .ensures) (c .if1 .taken)
+returns c = query-refused _ _ _ (c .before .refused-by-at .ensures) (c .if1 .taken)
 
 peer-has-expired-pending-requires : tie.Need-peer-has-expired-pending-requires
 unfolding read-clock
 peer-has-expired-pending-requires c κs =
-    let g = admitted _ _ 0 _ (c .before .admits-at .ensures) (c .if1 .left) in
+    let g = admitted _ _ 0 _ (c .before .refused-by-at .ensures) (c .if1 .left) in
     (g .whole, (g .sound-at, a-seat _ (g .passes .peers)))
 
 returns-2 : tie.Need-returns-2
 unfolding read-clock
-returns-2 c = query-answered _ _ _ _ (c .before .before .before .admits-at .ensures) (c .before .before .if1 .left) (ap truth (sym (c .if2 .taken) ∙ c .before .peer-has-expired-pending .ensures))
+returns-2 c = query-answered _ _ _ _ (c .before .before .before .refused-by-at .ensures) (c .before .before .if1 .left) (ap truth (sym (c .if2 .taken) ∙ c .before .peer-has-expired-pending .ensures))
 
 returns-3 : tie.Need-returns-3
 unfolding read-clock
-returns-3 c = query-answered _ _ _ _ (c .before .before .before .admits-at .ensures) (c .before .before .if1 .left) (ap truth (sym (c .if2 .left) ∙ c .before .peer-has-expired-pending .ensures))
+returns-3 c = query-answered _ _ _ _ (c .before .before .before .refused-by-at .ensures) (c .before .before .if1 .left) (ap truth (sym (c .if2 .left) ∙ c .before .peer-has-expired-pending .ensures))
 
 pub peer-has-expired-pending-spec : {M : Type 1} → statement M
-peer-has-expired-pending-spec = tie.close (tie.spec admits-at-requires returns peer-has-expired-pending-requires returns-2 returns-3)
+peer-has-expired-pending-spec = tie.close (tie.spec refused-by-at-requires returns peer-has-expired-pending-requires returns-2 returns-3)

@@ -6,17 +6,17 @@ use borrow.Author.Needs.{needs}
 use Rattle.window_queries.proofs.pending_bytes.Statement.{statement}
 use Rattle.window_queries.proofs.pending_bytes.Tie as tie
 
-admits-requires : tie.Need-admits-requires
-admits-requires c κs = search needs
+refused-by-requires : tie.Need-refused-by-requires
+refused-by-requires c κs = search needs
 
 returns : tie.Need-returns
-returns c = query-refused _ _ _ (c .before .admits .ensures) (c .if1 .taken)
+returns c = query-refused _ _ _ (c .before .refused-by .ensures) (c .if1 .taken)
 
 get-total-requires : tie.Need-get-total-requires
-get-total-requires c κs = admitted _ _ 0 _ (c .before .admits .ensures) (c .if1 .left) .whole .long
+get-total-requires c κs = admitted _ _ 0 _ (c .before .refused-by .ensures) (c .if1 .left) .whole .long
 
 returns-2 : tie.Need-returns-2
-returns-2 c = query-answered _ _ _ _ (c .before .before .admits .ensures) (c .before .if1 .left) (ap number (c .get-total .ensures))
+returns-2 c = query-answered _ _ _ _ (c .before .before .refused-by .ensures) (c .before .if1 .left) (ap number (c .get-total .ensures))
 
 pub pending-bytes-spec : {M : Type 1} → statement M
-pending-bytes-spec = tie.close (tie.spec admits-requires returns get-total-requires returns-2)
+pending-bytes-spec = tie.close (tie.spec refused-by-requires returns get-total-requires returns-2)

@@ -6,22 +6,22 @@ use borrow.Author.Needs.{needs}
 use Rattle.window_queries.proofs.probe_offered.Statement.{statement}
 use Rattle.window_queries.proofs.probe_offered.Tie as tie
 
-admits-requires : tie.Need-admits-requires
-admits-requires c κs = search needs
+refused-by-requires : tie.Need-refused-by-requires
+refused-by-requires c κs = search needs
 
 returns : tie.Need-returns
-returns c = query-refused _ _ _ (c .before .admits .ensures) (c .if1 .taken)
+returns c = query-refused _ _ _ (c .before .refused-by .ensures) (c .if1 .taken)
 
 probe-offered-requires : tie.Need-probe-offered-requires
 probe-offered-requires c κs =
-    let g = admitted _ _ 0 _ (c .before .admits .ensures) (c .if1 .left) in
+    let g = admitted _ _ 0 _ (c .before .refused-by .ensures) (c .if1 .left) in
     (g .whole, a-seat _ (g .passes .peers))
 
 returns-2 : tie.Need-returns-2
-returns-2 c = query-answered _ _ _ _ (c .before .before .before .admits .ensures) (c .before .before .if1 .left) (ap truth (sym (c .if2 .taken) ∙ c .before .probe-offered .ensures))
+returns-2 c = query-answered _ _ _ _ (c .before .before .before .refused-by .ensures) (c .before .before .if1 .left) (ap truth (sym (c .if2 .taken) ∙ c .before .probe-offered .ensures))
 
 returns-3 : tie.Need-returns-3
-returns-3 c = query-answered _ _ _ _ (c .before .before .before .admits .ensures) (c .before .before .if1 .left) (ap truth (sym (c .if2 .left) ∙ c .before .probe-offered .ensures))
+returns-3 c = query-answered _ _ _ _ (c .before .before .before .refused-by .ensures) (c .before .before .if1 .left) (ap truth (sym (c .if2 .left) ∙ c .before .probe-offered .ensures))
 
 pub probe-offered-spec : {M : Type 1} → statement M
-probe-offered-spec = tie.close (tie.spec admits-requires returns probe-offered-requires returns-2 returns-3)
+probe-offered-spec = tie.close (tie.spec refused-by-requires returns probe-offered-requires returns-2 returns-3)

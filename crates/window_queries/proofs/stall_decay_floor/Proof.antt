@@ -6,19 +6,19 @@ use borrow.Author.Needs.{needs}
 use Rattle.window_queries.proofs.stall_decay_floor.Statement.{statement}
 use Rattle.window_queries.proofs.stall_decay_floor.Tie as tie
 
-admits-requires : tie.Need-admits-requires
-admits-requires c κs = search needs
+refused-by-requires : tie.Need-refused-by-requires
+refused-by-requires c κs = search needs
 
 returns : tie.Need-returns
-returns c = query-refused _ _ _ (c .before .admits .ensures) (c .if1 .taken)
+returns c = query-refused _ _ _ (c .before .refused-by .ensures) (c .if1 .taken)
 
 stall-decay-floor-requires : tie.Need-stall-decay-floor-requires
 stall-decay-floor-requires c κs =
-    let g = admitted _ _ 0 _ (c .before .admits .ensures) (c .if1 .left) in
+    let g = admitted _ _ 0 _ (c .before .refused-by .ensures) (c .if1 .left) in
     (g .whole .long, g .sound .pace .mean)
 
 returns-2 : tie.Need-returns-2
-returns-2 c = query-answered _ _ _ _ (c .before .before .admits .ensures) (c .before .if1 .left) (ap number (c .stall-decay-floor .ensures))
+returns-2 c = query-answered _ _ _ _ (c .before .before .refused-by .ensures) (c .before .if1 .left) (ap number (c .stall-decay-floor .ensures))
 
 pub stall-decay-floor-spec : {M : Type 1} → statement M
-stall-decay-floor-spec = tie.close (tie.spec admits-requires returns stall-decay-floor-requires returns-2)
+stall-decay-floor-spec = tie.close (tie.spec refused-by-requires returns stall-decay-floor-requires returns-2)

@@ -5,19 +5,19 @@ use borrow.Author.Needs.{needs}
 use Rattle.window_queries.proofs.stalling_peer.Statement.{statement}
 use Rattle.window_queries.proofs.stalling_peer.Tie as tie
 
-admits-requires : tie.Need-admits-requires
-admits-requires c κs = search needs
+refused-by-requires : tie.Need-refused-by-requires
+refused-by-requires c κs = search needs
 
 returns : tie.Need-returns
-returns c = query-refused _ _ _ (c .before .admits .ensures) (c .if1 .taken)
+returns c = query-refused _ _ _ (c .before .refused-by .ensures) (c .if1 .taken)
 
 stalling-peer-requires : tie.Need-stalling-peer-requires
 stalling-peer-requires c κs =
-    let g = admitted _ _ 0 _ (c .before .admits .ensures) (c .if1 .left) in
+    let g = admitted _ _ 0 _ (c .before .refused-by .ensures) (c .if1 .left) in
     (g .whole .long, staller-seated (g .sound))
 
 returns-2 : tie.Need-returns-2
-returns-2 c = query-answered _ _ _ _ (c .before .before .admits .ensures) (c .before .if1 .left) (c .stalling-peer .ensures)
+returns-2 c = query-answered _ _ _ _ (c .before .before .refused-by .ensures) (c .before .if1 .left) (c .stalling-peer .ensures)
 
 pub stalling-peer-spec : {M : Type 1} → statement M
-stalling-peer-spec = tie.close (tie.spec admits-requires returns stalling-peer-requires returns-2)
+stalling-peer-spec = tie.close (tie.spec refused-by-requires returns stalling-peer-requires returns-2)

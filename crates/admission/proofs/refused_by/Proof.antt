@@ -1,12 +1,12 @@
--- `admission::admits` meets its contract. Assumes nothing.
+-- `admission::refused_by` meets its contract. Assumes nothing.
 use borrow.Author.Tests.{not-true, not-false}
 use mathlib.Core.Path.{refl}
 use Rattle.model.specs.Layout.{is-window}
 use Rattle.refusals.specs.Tests.{refused-1, refused-2, refused-6, by-content, report-none}
 use Rattle.admission.specs.Admits.{no-window, a-window}
 use borrow.Author.Needs.{needs}
-use Rattle.admission.proofs.admits.Statement.{statement}
-use Rattle.admission.proofs.admits.Tie as tie
+use Rattle.admission.proofs.refused_by.Statement.{statement}
+use Rattle.admission.proofs.refused_by.Tie as tie
 
 returns : tie.Need-returns
 returns c = refused-1 _ _ 0 (c .if1 .taken)
@@ -40,5 +40,5 @@ returns-4 c =
     let v = a-window ws n (w .result) (w .ensures) (c .before .if2 .left) in
     by-content _ _ 0 n v (report-none 0) refl (not-false (a .peers) (c .if3 .left))
 
-pub admits-spec : {M : Type 1} → statement M
-admits-spec = tie.close (tie.spec returns is-window-requires returns-2 returns-3 returns-4)
+pub refused-by-spec : {M : Type 1} → statement M
+refused-by-spec = tie.close (tie.spec returns is-window-requires returns-2 returns-3 returns-4)

@@ -1,11 +1,11 @@
--- `admission::admits_opening` meets its contract. Assumes nothing.
+-- `admission::opening_refused_by` meets its contract. Assumes nothing.
 use mathlib.Core.Path.{sym, _∙_}
 use borrow.Author.Tests.{not-true, not-false}
 use Rattle.refusals.specs.Tests.{opening-1, opening-4, opening-5, opening-6, opening-0}
 use Rattle.admission.specs.Admits.{too-high, low-enough}
 use borrow.Author.Needs.{needs}
-use Rattle.admission.proofs.admits_opening.Statement.{statement}
-use Rattle.admission.proofs.admits_opening.Tie as tie
+use Rattle.admission.proofs.opening_refused_by.Statement.{statement}
+use Rattle.admission.proofs.opening_refused_by.Tie as tie
 
 returns : tie.Need-returns
 returns c =
@@ -53,5 +53,5 @@ returns-5 c =
     opening-0 (a .clock) (a .b) (a .keys .now) (a .words .now) (c .before .before .before .before .before .before .if1 .left) (low-enough (t .result) (a .clock) (t .ensures) (c .before .before .before .before .if2 .left))
     (sym (s .ensures) ∙ not-false (s .result) (c .before .before .if3 .left)) (sym (k .ensures) ∙ not-false (k .result) (c .if4 .left))
 
-pub admits-opening-spec : {M : Type 1} → statement M
-admits-opening-spec = tie.close (tie.spec returns clock-fits-requires returns-2 settings-fit-requires returns-3 keys-fit-requires returns-4 returns-5)
+pub opening-refused-by-spec : {M : Type 1} → statement M
+opening-refused-by-spec = tie.close (tie.spec returns clock-fits-requires returns-2 settings-fit-requires returns-3 keys-fit-requires returns-4 returns-5)

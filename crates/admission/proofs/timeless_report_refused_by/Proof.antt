@@ -1,4 +1,4 @@
--- `admission::admits_report_timeless` meets its contract. Assumes nothing.
+-- `admission::timeless_report_refused_by` meets its contract. Assumes nothing.
 use mathlib.Core.Path.{refl}
 use mathlib.Core.Bool.{true}
 use borrow.Author.Tests.{not-true, not-false}
@@ -6,8 +6,8 @@ use borrow.Author.Needs.{needs}
 use Rattle.model.specs.Refusals.{Checks, timeless, checking, nothing}
 use Rattle.refusals.specs.Tests.{refused-1, refused-2, refused-3, refused-6, by-content, report-short, report-long}
 use Rattle.admission.specs.Admits.{no-window, a-window}
-use Rattle.admission.proofs.admits_report_timeless.Statement.{statement}
-use Rattle.admission.proofs.admits_report_timeless.Tie as tie
+use Rattle.admission.proofs.timeless_report_refused_by.Statement.{statement}
+use Rattle.admission.proofs.timeless_report_refused_by.Tie as tie
 
 returns : tie.Need-returns
 returns c =
@@ -58,5 +58,5 @@ returns-5 c =
     let r = report-long (a .room) (c .before .if3 .left) in
     by-content k ws (a .room) n v r refl (not-false (a .peers) (c .if4 .left))
 
-pub admits-report-timeless-spec : {M : Type 1} → statement M
-admits-report-timeless-spec = tie.close (tie.spec returns is-window-requires returns-2 returns-3 returns-4 returns-5)
+pub timeless-report-refused-by-spec : {M : Type 1} → statement M
+timeless-report-refused-by-spec = tie.close (tie.spec returns is-window-requires returns-2 returns-3 returns-4 returns-5)

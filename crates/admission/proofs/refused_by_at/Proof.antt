@@ -1,11 +1,11 @@
--- `admission::admits_at` meets its contract. Assumes nothing.
+-- `admission::refused_by_at` meets its contract. Assumes nothing.
 use borrow.Author.Tests.{not-true, not-false}
 use Rattle.model.specs.Layout.{window-of}
 use Rattle.refusals.specs.Tests.{refused-1, refused-2, refused-4, refused-6, by-content, report-none}
 use Rattle.admission.specs.Admits.{no-window, a-window, not-now, in-time}
 use borrow.Author.Needs.{needs}
-use Rattle.admission.proofs.admits_at.Statement.{statement}
-use Rattle.admission.proofs.admits_at.Tie as tie
+use Rattle.admission.proofs.refused_by_at.Statement.{statement}
+use Rattle.admission.proofs.refused_by_at.Tie as tie
 
 returns : tie.Need-returns
 returns c = refused-1 _ _ 0 (c .if1 .taken)
@@ -60,5 +60,5 @@ returns-5 c =
     let k = c .before .before .clock-fits in
     by-content _ _ 0 n v (report-none 0) (in-time (k .result) (l .result) (window-of ws .clock) (a .clock) (k .ensures) (l .ensures) (c .before .if3 .left)) (not-false (a .peers) (c .if4 .left))
 
-pub admits-at-spec : {M : Type 1} → statement M
-admits-at-spec = tie.close (tie.spec returns is-window-requires returns-2 get-clock-requires clock-fits-requires returns-3 returns-4 returns-5)
+pub refused-by-at-spec : {M : Type 1} → statement M
+refused-by-at-spec = tie.close (tie.spec returns is-window-requires returns-2 get-clock-requires clock-fits-requires returns-3 returns-4 returns-5)
