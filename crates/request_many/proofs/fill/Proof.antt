@@ -53,7 +53,7 @@ loop-again c =
     let p = c .before .before .put-row in
     let r = c .before .before .before .before .row-entry in
     filled-turn (a .words .now) (a .hashes .now) (a .heights .now) (a .order .now) (a .m) (a .total) (a .owner) (a .clock) (a .mean) (s .pre) (l .j) (l .words) (p .last .0) (r .result)
-    (c .before .before .before .before .before .before .before .loop-test .taken) (l .inv) (r .ensures) (p .ensures) (p .kept .0)
+    (omega (arith, c .before .before .before .before .before .before .before .loop-test .taken)) (l .inv) (r .ensures) (p .ensures) (p .kept .0)
 
 same-length : tie.Need-same-length Inv-loop μ-loop
 same-length c = c .before .loop .inv .1 .0
