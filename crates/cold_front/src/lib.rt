@@ -135,8 +135,9 @@ fn next_turn(words: &[u64], next: u64, clock: u64) -> Turn
     if 2 <= state_races::hedged_count(words) {
         return idle();
     }
-    let front = state_queue::at_height(words, next);
-    let Front::At(e) = front else {
+    // 01's name for it; it is any entry at the next height, as the Rust has it.
+    let lowest = state_queue::at_height(words, next);
+    let Front::At(e) = lowest else {
         return idle();
     };
     let s = state::get_settings(words);

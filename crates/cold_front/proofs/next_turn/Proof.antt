@@ -36,8 +36,8 @@ returns-3 c = c .idle2 .ensures ∙ turn-hedged (c .before .before .before .befo
 at-height-requires : tie.Need-at-height-requires
 at-height-requires c κs = search needs
 
-enum-known-front : tie.Need-enum-known-front
-enum-known-front c = search needs
+enum-known-lowest : tie.Need-enum-known-lowest
+enum-known-lowest c = search needs
 
 enum-told : tie.Need-enum-told
 enum-told c = search needs
@@ -55,7 +55,7 @@ wait-on-requires : tie.Need-wait-on-requires
 wait-on-requires c κs = search needs
 
 returns-5 : tie.Need-returns-5
-returns-5 c = c .wait-on .ensures ∙ turn-at (c .before .before .before .before .before .before .before .before .before .before .before .before .before .before .before .args .next) (c .before .before .before .before .before .before .before .before .before .before .before .before .before .before .before .args .clock) (window-of (c .before .before .before .before .before .before .before .before .before .before .before .before .before .before .before .args .words .now)) (c .before .before .before .before .before .before .before .before .before .before .before .before .before .get-cold .result) (c .before .before .before .before .before .before .before .before .before .before .before .before .before .get-cold .ensures) (sym (c .before .before .before .before .before .before .before .before .before .before .before .before .is-racing .ensures) ∙ c .before .before .before .before .before .before .before .before .before .before .before .if1 .left) (c .before .before .before .before .before .before .before .before .before .before .get-pace .result) (c .before .before .before .before .before .before .before .before .before .before .get-pace .ensures) (c .before .before .before .before .before .before .before .before .if2 .left) (c .before .before .before .before .before .before .before .hedged-count .result) (c .before .before .before .before .before .before .before .hedged-count .ensures) (c .before .before .before .before .before .before .if3 .left) (c .before .before .before .before .before .at-height .result) (c .before .before .before .before .before .at-height .ensures) _ (c .before .get-settings .result) (c .before .before .before .front .given .1) (c .before .get-settings .ensures)
+returns-5 c = c .wait-on .ensures ∙ turn-at (c .before .before .before .before .before .before .before .before .before .before .before .before .before .before .before .args .next) (c .before .before .before .before .before .before .before .before .before .before .before .before .before .before .before .args .clock) (window-of (c .before .before .before .before .before .before .before .before .before .before .before .before .before .before .before .args .words .now)) (c .before .before .before .before .before .before .before .before .before .before .before .before .before .get-cold .result) (c .before .before .before .before .before .before .before .before .before .before .before .before .before .get-cold .ensures) (sym (c .before .before .before .before .before .before .before .before .before .before .before .before .is-racing .ensures) ∙ c .before .before .before .before .before .before .before .before .before .before .before .if1 .left) (c .before .before .before .before .before .before .before .before .before .before .get-pace .result) (c .before .before .before .before .before .before .before .before .before .before .get-pace .ensures) (c .before .before .before .before .before .before .before .before .if2 .left) (c .before .before .before .before .before .before .before .hedged-count .result) (c .before .before .before .before .before .before .before .hedged-count .ensures) (c .before .before .before .before .before .before .if3 .left) (c .before .before .before .before .before .at-height .result) (c .before .before .before .before .before .at-height .ensures) _ (c .before .get-settings .result) (c .before .before .before .lowest .given .1) (c .before .get-settings .ensures)
 
 pub next-turn-spec : {M : Type 1} → statement M
 next-turn-spec =
@@ -71,7 +71,7 @@ next-turn-spec =
     idle-requires-2
     returns-3
     at-height-requires
-    enum-known-front
+    enum-known-lowest
     enum-told
     idle-requires-3
     returns-4
