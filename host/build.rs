@@ -1,4 +1,4 @@
-//! Finds libexport.a: in the folder that KOFUDILE_LIB names, else in target/staticlib of the repository.
+//! Finds libkofudile.a: in the folder that KOFUDILE_LIB names, else in target/staticlib of the repository.
 
 use std::path::PathBuf;
 use std::{env, fs};
@@ -8,10 +8,10 @@ fn main() -> Result<(), String> {
     println!("cargo::rerun-if-changed=src/ffi.rs");
     let here = PathBuf::from(env::var("CARGO_MANIFEST_DIR").map_err(|error| error.to_string())?);
     let folder = env::var("KOFUDILE_LIB").map_or_else(|_| here.join("../target/staticlib"), PathBuf::from);
-    let archive = folder.join("libexport.a");
+    let archive = folder.join("libkofudile.a");
     println!("cargo::rerun-if-changed={}", archive.display());
     let bytes = fs::read(&archive).map_err(|error| {
-        format!("{}: {error} (`rt staticlib export` writes it; KOFUDILE_LIB names another folder)", archive.display())
+        format!("{}: {error} (`rt staticlib kofudile` writes it; KOFUDILE_LIB names another folder)", archive.display())
     })?;
     let declared = fs::read_to_string(here.join("src/ffi.rs")).map_err(|error| error.to_string())?;
     let missing = missing(&bytes, &declared);
@@ -19,7 +19,7 @@ fn main() -> Result<(), String> {
         return Err(format!("{} has not: {}", archive.display(), missing.join(", ")));
     }
     println!("cargo::rustc-link-search=native={}", folder.display());
-    println!("cargo::rustc-link-lib=static=export");
+    println!("cargo::rustc-link-lib=static=kofudile");
     Ok(())
 }
 

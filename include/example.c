@@ -1,7 +1,7 @@
 /*
  * A small host: opens a window, asks two peers for blocks, takes deliveries, sees a refusal, sweeps what was never sent. From the repository's root:
  *
- *   rt staticlib export && cc -O2 -Iinclude include/example.c -Ltarget/staticlib -lexport -o target/example && target/example
+ *   rt staticlib kofudile && cc -O2 -Iinclude include/example.c -Ltarget/staticlib -lkofudile -o target/example && target/example
  *
  * include/example.stdout is what it prints.
  */

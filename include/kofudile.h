@@ -1,7 +1,7 @@
 /*
  * Kofudile: the table of blocks that a node has asked for and not yet received.
  *
- * Link libexport.a (`rt staticlib export` writes target/staticlib/libexport.a; x86-64, System V calls). It keeps nothing of its own: no globals, no
+ * Link libkofudile.a (`rt staticlib kofudile` writes target/staticlib/libkofudile.a; x86-64, System V calls). It keeps nothing of its own: no globals, no
  * allocation, no clock, no threads. All state is in 4,096 words that the host lends with each call. include/example.c is a whole host.
  * It calls memcpy, memmove and memset, which the compiler's back end puts in, and nothing else: a freestanding host supplies these three.
  *

@@ -1,10 +1,10 @@
-//! Links libexport.a, in the folder that KOFUDILE_LIB names.
+//! Links libkofudile.a, in the folder that KOFUDILE_LIB names.
 
 fn main() -> Result<(), String> {
     println!("cargo::rerun-if-env-changed=KOFUDILE_LIB");
     let folder = std::env::var("KOFUDILE_LIB").map_err(|_| "KOFUDILE_LIB is not set: run bench/run")?;
-    println!("cargo::rerun-if-changed={folder}/libexport.a");
+    println!("cargo::rerun-if-changed={folder}/libkofudile.a");
     println!("cargo::rustc-link-search=native={folder}");
-    println!("cargo::rustc-link-lib=static=export");
+    println!("cargo::rustc-link-lib=static=kofudile");
     Ok(())
 }

@@ -36,7 +36,7 @@
 #![warn(missing_docs, unsafe_op_in_unsafe_fn)]
 
 #[cfg(not(all(target_arch = "x86_64", target_pointer_width = "64")))]
-compile_error!("libexport.a is for x86-64");
+compile_error!("libkofudile.a is for x86-64");
 
 mod calls;
 mod ffi;

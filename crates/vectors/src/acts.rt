@@ -1,4 +1,4 @@
-// The calls by their numbers in crates/export/API.md.
+// The calls by their numbers in crates/kofudile/API.md.
 ghost use mathlib.Core.Path.{_≡_};
 ghost use lib.ListN.{length};
 use crate::asks::hash_at;

@@ -1,4 +1,4 @@
-// The queries by their numbers in crates/export/API.md. None has a report, so none differs in it.
+// The queries by their numbers in crates/kofudile/API.md. None has a report, so none differs in it.
 ghost use Prim.Native.Nat.{_+_, _%_, _^_};
 ghost use mathlib.Core.Path.{_≡_};
 ghost use mathlib.Core.Bool.{true};

@@ -1,4 +1,4 @@
-//! crates/export/API.md as Rust: the C structs and functions; include/check compares them with crates/export.
+//! crates/kofudile/API.md as Rust: the C structs and functions; include/check compares them with crates/kofudile.
 
 #[repr(C)]
 #[derive(Clone, Copy, Debug, PartialEq, Eq)]

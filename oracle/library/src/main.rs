@@ -78,7 +78,7 @@ fn number(text: &str) -> u64 {
 fn text(all: &[Found], arguments: &[String], commit: &str, sum: &str) -> String {
     let mut text = format!(
         "# The library beside the Rust\n\nWritten by `oracle/compare {}` at commit {commit} (a + after it: with changes that were not committed); sha256 of \
-         the library, libexport.a: {sum}. What is compared, and how, is in [oracle/README.md](../oracle/README.md).\n",
+         the library, libkofudile.a: {sum}. What is compared, and how, is in [oracle/README.md](../oracle/README.md).\n",
         arguments[..5].join(" ")
     );
     for part in all {

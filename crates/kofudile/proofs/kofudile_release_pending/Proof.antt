@@ -1,0 +1,15 @@
+-- `kofudile::kofudile_release_pending` meets its contract: it is an `Export` (Exports.antt) of the window's function. Assumes nothing.
+use mathlib.Core.Path.{refl}
+use mathlib.Core.List.{[]}
+use Rattle.window.proofs.Calls.{releasing}
+use Rattle.window.proofs.release_pending.Symbol as core
+use Rattle.window.proofs.release_pending.Met as core-met
+use Rattle.kofudile.proofs.Answers.{gone}
+use Rattle.kofudile.proofs.Exports.{Export, as-it-is, exports}
+use Rattle.kofudile.proofs.kofudile_release_pending.Key.{name as #f}
+use Rattle.kofudile.proofs.kofudile_release_pending.Statement as stated
+use Rattle.kofudile.proofs.kofudile_release_pending.Code as code
+
+pub kofudile-release-pending-spec : {M : Type 1} → stated.statement M
+unfolding code.routine
+kofudile-release-pending-spec 𝓤 H 𝓜 𝓖 𝓡 = exports (as-it-is releasing core.name gone) 𝓤 H 𝓜 𝓖 𝓡 code.env #f (code.unfolded 𝓤 H 𝓜 𝓡) code.calls-flat·of-let-go tt core.routine code.calls-window·release-pending (core-met.met 𝓤 H 𝓜 𝓖 𝓡)
