@@ -6,25 +6,22 @@ ghost use Rattle.model.specs.Layout.{settings-ok};
 ghost use Rattle.model.specs.Refusals.{at, timeless, checking, nothing, keys-ok, window-refusal, opening-refusal, body-refusal, source-ok, alternates-ok};
 use model::Settings;
 use model::Source;
-
-// `max-clock`, 2^62: the highest clock.
-const MAX_CLOCK: u64 = 4_611_686_018_427_387_904;
-
-// `max-body`: the most bytes of a body.
-const MAX_BODY: u64 = 4_294_967_295;
+use model::at;
+use model::limits;
+use model::sizes;
 
 // `clock-ok`: a clock is within the bound, and not before the last accepted one.
 fn clock_fits(last: u64, clock: u64) -> bool
     ensures { λ r. ⌜ r ≡ clock-ok last clock ⌝ }
 {
-    (clock <= MAX_CLOCK) & (last <= clock)
+    (clock <= limits::MAX_CLOCK) & (last <= clock)
 }
 
 // What a call or query without a clock and without a report is refused by: 1, 2, 6, or 0 for none.
 pub fn refused_by(words: &[u64], peers: bool) -> u64
     ensures { λ r. ⌜ r ≡ window-refusal (checking false timeless peers nothing) (now (words .entry)) 0 ⌝ }
 {
-    if words.len() != 4096 {
+    if words.len() != at::WORDS {
         return 1;
     }
     if !check_window::is_window(words) {
@@ -40,7 +37,7 @@ pub fn refused_by(words: &[u64], peers: bool) -> u64
 pub fn refused_by_at(words: &[u64], clock: u64, peers: bool) -> u64
     ensures { λ r. ⌜ r ≡ window-refusal (checking false (at clock) peers nothing) (now (words .entry)) 0 ⌝ }
 {
-    if words.len() != 4096 {
+    if words.len() != at::WORDS {
         return 1;
     }
     if !check_window::is_window(words) {
@@ -62,30 +59,30 @@ pub fn refused_by_at(words: &[u64], clock: u64, peers: bool) -> u64
 fn settings_fit(b: Settings) -> bool
     ensures { λ r. ⌜ r ≡ settings-ok b ⌝ }
 {
-    (b.max_pending_blocks <= 256)
-        & (b.max_pending_bytes <= 1_099_511_627_776)
-        & (b.max_received_blocks <= 65535)
-        & (b.max_peer_inflight <= 65535)
-        & (b.fanout_peer_inflight <= 65535)
-        & (b.min_peers_for_fanout <= 65535)
-        & (b.getdata_batch_limit <= 65535)
-        & (b.block_spacing <= 1_000_000_000_000_000)
-        & (b.received_timeout <= 1_000_000_000_000_000)
-        & (b.stall_timeout_initial <= 1_000_000_000_000_000)
-        & (b.stall_timeout_max <= 1_000_000_000_000_000)
-        & (b.staller_cooldown <= 1_000_000_000_000_000)
+    (b.max_pending_blocks <= limits::MAX_PENDING)
+        & (b.max_pending_bytes <= limits::MAX_BYTE_LIMIT)
+        & (b.max_received_blocks <= limits::MAX_COUNT)
+        & (b.max_peer_inflight <= limits::MAX_COUNT)
+        & (b.fanout_peer_inflight <= limits::MAX_COUNT)
+        & (b.min_peers_for_fanout <= limits::MAX_COUNT)
+        & (b.getdata_batch_limit <= limits::MAX_COUNT)
+        & (b.block_spacing <= limits::MAX_DURATION)
+        & (b.received_timeout <= limits::MAX_DURATION)
+        & (b.stall_timeout_initial <= limits::MAX_DURATION)
+        & (b.stall_timeout_max <= limits::MAX_DURATION)
+        & (b.staller_cooldown <= limits::MAX_DURATION)
 }
 
 // `keys-ok`: 256 keys, each at most 255.
 fn keys_fit(keys: &[u64]) -> bool
     ensures { λ r. ⌜ r ≡ keys-ok (now (keys .entry)) ⌝ }
 {
-    if keys.len() != 256 {
+    if keys.len() != sizes::SEATS {
         return false;
     }
     let mut i = 0;
-    while i < 256 {
-        if keys[i] > 255 {
+    while i < sizes::SEATS {
+        if keys[i] > limits::MAX_SEAT {
             return false;
         }
         i += 1;
@@ -97,7 +94,7 @@ fn keys_fit(keys: &[u64]) -> bool
 pub fn opening_refused_by(words: &[u64], clock: u64, b: Settings, keys: &[u64]) -> u64
     ensures { λ r. ⌜ r ≡ opening-refusal clock b (now (keys .entry)) (now (words .entry)) ⌝ }
 {
-    if words.len() != 4096 {
+    if words.len() != at::WORDS {
         return 1;
     }
     if !clock_fits(0, clock) {
@@ -118,13 +115,13 @@ pub fn opening_refused_by(words: &[u64], clock: u64, b: Settings, keys: &[u64]) 
 pub fn timeless_report_refused_by(words: &[u64], room: usize, peers: bool) -> u64
     ensures { λ r. ⌜ r ≡ window-refusal (checking true timeless peers nothing) (now (words .entry)) room ⌝ }
 {
-    if words.len() != 4096 {
+    if words.len() != at::WORDS {
         return 1;
     }
     if !check_window::is_window(words) {
         return 2;
     }
-    if room < 256 {
+    if room < sizes::PLACES {
         return 3;
     }
     if !peers {
@@ -159,7 +156,7 @@ pub fn body_refused_by(words: &[u64], room: usize, clock: u64, peers: bool, byte
     if n != 0 {
         return n;
     }
-    if bytes > MAX_BODY {
+    if bytes > limits::MAX_BODY {
         return 9;
     }
     0
@@ -171,7 +168,7 @@ pub fn source_ok(source: Source) -> bool
 {
     match source {
         Source::Missing => true,
-        Source::From(s) => s <= 255,
+        Source::From(s) => s <= limits::MAX_SEAT,
     }
 }
 
@@ -181,12 +178,12 @@ pub fn source_ok(source: Source) -> bool
 pub fn alternates_ok(alternates: &[u64]) -> bool
     ensures { λ r. ⌜ r ≡ alternates-ok (now (alternates .entry)) ⌝ }
 {
-    if alternates.len() > 256 {
+    if alternates.len() > sizes::SEATS {
         return false;
     }
     let mut i = 0;
     while i < alternates.len() {
-        if alternates[i] > 255 {
+        if alternates[i] > limits::MAX_SEAT {
             return false;
         }
         i += 1;

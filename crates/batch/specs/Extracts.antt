@@ -4,7 +4,7 @@ use mathlib.Core.List.{List, [], _∷_, _++_}
 use Prim.Native.Nat.{ℕ, zero, suc, _+_, _-_, _≤_, _<_}
 use native.Mathlib.Omega.{arith}
 use lib.ListN.{length, take}
-use Rattle.model.specs.Lists.{keptIf, keepBy}
+use Rattle.column.specs.Edits.{keptIf, keepBy}
 use Rattle.model.specs.Numbers.{max-clock}
 use Rattle.model.specs.LettingGo.{total-after, frontier-after, resets}
 use Rattle.model.specs.Window.{Window, queue, with-queue, with-frontier}

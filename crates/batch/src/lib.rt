@@ -16,6 +16,9 @@ ghost use Rattle.laws.specs.Pending.{Ranged};
 ghost use Rattle.records.specs.Places.{stored};
 ghost use Rattle.report_words.specs.Report.{releases-of};
 ghost use Rattle.batch.specs.Resets.{Oldests, Went, seats-of};
+use model::at;
+use model::of_release;
+use model::sizes;
 use records::Oldest;
 
 // ---- the oldest request that each seat has left
@@ -31,17 +34,17 @@ fn sooner_stored(t: u64, u: u64) -> u64
 }
 
 // `oldest`, of every seat
-fn oldest_left(words: &[u64], count: usize) -> [u64; 256]
+fn oldest_left(words: &[u64], count: usize) -> [u64; sizes::SEATS]
     requires { ⌜ (length (now words) ≡ 4096) × ((count ≡ length (window-of (now words) .queue .pending)) × Ranged (window-of (now words))) ⌝ }
     ensures { λ r. ⌜ Oldests r (window-of (now (words .entry)) .queue .pending) ⌝ }
 {
-    let mut left = [0; 256];
+    let mut left = [0; sizes::SEATS];
     let mut i = count;
     while 0 < i {
         i -= 1;
-        let o = words[i + 1024];
+        let o = words[i + at::OWNERS];
         let owner = o as usize;
-        left[owner] = sooner_stored(words[i + 1280] + 1, left[owner]);
+        left[owner] = sooner_stored(words[i + at::TIMES] + 1, left[owner]);
     }
     left
 }
@@ -58,17 +61,17 @@ fn left_of(s: u64) -> Oldest
 }
 
 // `resets`, over the first `n` releases.
-fn reset_all(words: &mut [u64], gone: &[u64], n: usize, clock: u64, left: &[u64; 256])
+fn reset_all(words: &mut [u64], gone: &[u64], n: usize, clock: u64, left: &[u64; sizes::SEATS])
     requires { ⌜ (length (now words) ≡ 4096) × ((length (now gone) ≡ 2304) × ((n ≤ 256) × ((clock ≤ max-clock) × (Went (InRange max-clock) (releases-of n (now gone)) × Oldests (now left) (window-of (now words) .queue .pending))))) ⌝ }
     ensures { λ _. ⌜ decode (now (words .exit)) ≡ seats-of (resets clock (releases-of n (now (gone .entry))) (window-of (now (words .entry)) .queue)) (decode (now (words .entry))) ⌝ }
 {
     let mut i = 0;
     while i < n {
-        let a = 9 * i;
-        let o = gone[a + 4];
+        let a = sizes::RELEASE_WORDS * i;
+        let o = gone[a + of_release::OWNER];
         let owner = o as usize;
         let l = left_of(left[owner]);
-        seats::reset_owner_queue_start(words, owner, gone[a + 5], clock, l);
+        seats::reset_owner_queue_start(words, owner, gone[a + of_release::TIME], clock, l);
         i += 1;
     }
 }

@@ -6,6 +6,10 @@ ghost use lib.ListN.{length};
 ghost use lib.Dec.{eqb};
 ghost use Rattle.model.specs.Layout.{decode, counts-ok, settings-ok, settings-of, small-ok, cold-ok, hedged-ok, observation-ok};
 ghost use Rattle.facts.specs.Words.{zeros, clock, since-fits, probe-fits, later-fits, head-fits};
+use model::at;
+use model::head;
+use model::limits;
+use model::sizes;
 
 pub fn to_usize(x: u64) -> usize
     ensures { λ r. ⌜ r ≡ x ⌝ }
@@ -30,34 +34,34 @@ fn counts(w: &[u64]) -> bool
     requires { ⌜ length (now w) ≡ 4096 ⌝ }
     ensures { λ r. ⌜ r ≡ counts-ok (decode (now (w .entry))) ⌝ }
 {
-    let n = w[3585];
-    let mean = w[3590];
-    (w[3584] == 1)
-        & (n <= 256)
-        & (w[3586] <= 0x4000_0000_0000_0000)
-        & (n <= w[3588])
-        & (w[3587] <= w[3589])
-        & (80 <= mean)
-        & (mean <= 0xffff_ffff)
-        & (w[3591] <= 0xffff_ffff)
+    let n = w[at::COUNT];
+    let mean = w[at::MEAN];
+    (w[at::FORMAT] == limits::FORMAT)
+        & (n <= limits::MAX_PENDING)
+        & (w[at::LAST_CLOCK] <= limits::MAX_CLOCK)
+        & (n <= w[at::HIGH_BLOCKS])
+        & (w[at::TOTAL] <= w[at::HIGH_BYTES])
+        & (limits::MIN_ESTIMATE <= mean)
+        & (mean <= limits::MAX_ESTIMATE)
+        & (w[at::FRONTIER] <= limits::MAX_HEIGHT)
 }
 
 fn settings(w: &[u64]) -> bool
     requires { ⌜ length (now w) ≡ 4096 ⌝ }
     ensures { λ r. ⌜ r ≡ settings-ok (settings-of (decode (now (w .entry)))) ⌝ }
 {
-    (w[3592] <= 256)
-        & (w[3593] <= 1_099_511_627_776)
-        & (w[3594] <= 65535)
-        & (w[3595] <= 65535)
-        & (w[3596] <= 65535)
-        & (w[3597] <= 65535)
-        & (w[3598] <= 65535)
-        & (w[3599] <= 1_000_000_000_000_000)
-        & (w[3600] <= 1_000_000_000_000_000)
-        & (w[3601] <= 1_000_000_000_000_000)
-        & (w[3602] <= 1_000_000_000_000_000)
-        & (w[3603] <= 1_000_000_000_000_000)
+    (w[at::MAX_PENDING_BLOCKS] <= limits::MAX_PENDING)
+        & (w[at::MAX_PENDING_BYTES] <= limits::MAX_BYTE_LIMIT)
+        & (w[at::MAX_RECEIVED_BLOCKS] <= limits::MAX_COUNT)
+        & (w[at::MAX_PEER_INFLIGHT] <= limits::MAX_COUNT)
+        & (w[at::FANOUT_PEER_INFLIGHT] <= limits::MAX_COUNT)
+        & (w[at::MIN_PEERS_FOR_FANOUT] <= limits::MAX_COUNT)
+        & (w[at::GETDATA_BATCH_LIMIT] <= limits::MAX_COUNT)
+        & (w[at::BLOCK_SPACING] <= limits::MAX_DURATION)
+        & (w[at::RECEIVED_TIMEOUT] <= limits::MAX_DURATION)
+        & (w[at::STALL_TIMEOUT_INITIAL] <= limits::MAX_DURATION)
+        & (w[at::STALL_TIMEOUT_MAX] <= limits::MAX_DURATION)
+        & (w[at::STALLER_COOLDOWN] <= limits::MAX_DURATION)
 }
 
 // Engaged, the pace, preferred and attempted.
@@ -65,13 +69,13 @@ fn small(w: &[u64]) -> bool
     requires { ⌜ (length (now w) ≡ 4096) × (clock (now w) ≤ 4611686018427387904) ⌝ }
     ensures { λ r. ⌜ r ≡ small-ok (decode (now (w .entry))) ⌝ }
 {
-    let latest = w[3586] + 1;
-    (w[3605] <= 1)
-        & (w[3606] <= 4_611_686_018_428)
-        & (w[3607] <= latest)
-        & (w[3608] <= 1_000_000_000_000_000)
-        & (w[3609] <= 256)
-        & (w[3610] <= 256)
+    let latest = w[at::LAST_CLOCK] + 1;
+    (w[at::FANOUT_ENGAGED] <= 1)
+        & (w[at::FRONT_MEAN] <= limits::MAX_STORED_FRONT_MEAN)
+        & (w[at::FRONT_ADVANCE] <= latest)
+        & (w[at::STALL_TIMEOUT] <= limits::MAX_DURATION)
+        & (w[at::PREFERRED] <= limits::MAX_STORED_SEAT)
+        & (w[at::ATTEMPTED] <= limits::MAX_STORED_SEAT)
 }
 
 // The stall or the stuck frontier: six words from a on, the first a stored time, the second at most m.
@@ -81,9 +85,9 @@ fn since(w: &[u64], a: usize, m: u64) -> bool
 {
     let t = w[a];
     if t == 0 {
-        return any_bits(w, a, 6) == 0;
+        return any_bits(w, a, sizes::STALL_WORDS) == 0;
     }
-    let latest = w[3586] + 1;
+    let latest = w[at::LAST_CLOCK] + 1;
     (t <= latest) & (w[a + 1] <= m)
 }
 
@@ -92,16 +96,16 @@ fn cold(w: &[u64]) -> bool
     requires { ⌜ (length (now w) ≡ 4096) × (clock (now w) ≤ 4611686018427387904) ⌝ }
     ensures { λ r. ⌜ r ≡ cold-ok (decode (now (w .entry))) ⌝ }
 {
-    let tag = w[3623];
+    let tag = w[at::COLD];
     if tag == 0 {
-        return any_bits(w, 3623, 7) == 0;
+        return any_bits(w, at::COLD, sizes::COLD_WORDS) == 0;
     }
-    let x = w[3625];
+    let x = w[at::COLD_OTHER];
     if tag == 1 {
-        let latest = w[3586] + 1;
-        return (w[3624] <= 255) & (0 < x) & (x <= latest);
+        let latest = w[at::LAST_CLOCK] + 1;
+        return (w[at::COLD_OWNER] <= limits::MAX_SEAT) & (0 < x) & (x <= latest);
     }
-    (tag == 2) & ((w[3624] <= 255) & (x <= 255))
+    (tag == 2) & ((w[at::COLD_OWNER] <= limits::MAX_SEAT) & (x <= limits::MAX_SEAT))
 }
 
 // At most two hedged fronts, and 0 after them.
@@ -109,22 +113,27 @@ fn hedged(w: &[u64]) -> bool
     requires { ⌜ length (now w) ≡ 4096 ⌝ }
     ensures { λ r. ⌜ r ≡ hedged-ok (decode (now (w .entry))) ⌝ }
 {
-    let n = to_usize(w[3630]);
-    if 2 < n {
+    let n = to_usize(w[at::HEDGED]);
+    if sizes::HEDGES < n {
         return false;
     }
-    any_bits(w, 3631 + 4 * n, 8 - 4 * n) == 0
+    any_bits(
+        w,
+        at::HEDGED_HASHES + sizes::HASH_WORDS * n,
+        sizes::HEDGED_WORDS - sizes::HASH_WORDS * n,
+    )
+        == 0
 }
 
 fn observation(w: &[u64]) -> bool
     requires { ⌜ length (now w) ≡ 4096 ⌝ }
     ensures { λ r. ⌜ r ≡ observation-ok (decode (now (w .entry))) ⌝ }
 {
-    let tag = w[3639];
+    let tag = w[at::OBSERVATION];
     if tag == 0 {
-        return any_bits(w, 3639, 6) == 0;
+        return any_bits(w, at::OBSERVATION, sizes::OBSERVATION_WORDS) == 0;
     }
-    (tag <= 2) & (w[3640] <= 255)
+    (tag <= 2) & (w[at::OBSERVATION_OWNER] <= limits::MAX_SEAT)
 }
 
 // The probe and its planned hashes: at most eight, and 0 after them.
@@ -132,17 +141,25 @@ fn probe(w: &[u64]) -> bool
     requires { ⌜ (length (now w) ≡ 4096) × (clock (now w) ≤ 4611686018427387904) ⌝ }
     ensures { λ r. ⌜ r ≡ probe-fits (decode (now (w .entry))) ⌝ }
 {
-    let since = w[3645];
+    let since = w[at::PROBE];
     if since == 0 {
-        return any_bits(w, 3645, 36) == 0;
+        return any_bits(w, at::PROBE, sizes::PROBE_WORDS) == 0;
     }
-    let n = to_usize(w[3647]);
-    if 8 < n {
+    let n = to_usize(w[at::PROBE_COUNT]);
+    if sizes::PROBED < n {
         return false;
     }
-    let rest = any_bits(w, 3649 + 4 * n, 32 - 4 * n);
-    let latest = w[3586] + 1;
-    (since <= latest) & (w[3646] <= 255) & (n <= 8) & (w[3648] <= 255) & (rest == 0)
+    let rest = any_bits(
+        w,
+        at::PROBE_HASHES + sizes::HASH_WORDS * n,
+        sizes::PLANNED_WORDS - sizes::HASH_WORDS * n,
+    );
+    let latest = w[at::LAST_CLOCK] + 1;
+    (since <= latest)
+        & (w[at::PROBE_OWNER] <= limits::MAX_SEAT)
+        & (n <= sizes::PROBED)
+        & (w[at::PROBE_ACCEPTED] <= limits::MAX_PROGRESS)
+        & (rest == 0)
 }
 
 // The head's parts, but for those of its first words.
@@ -152,13 +169,13 @@ fn parts(w: &[u64]) -> bool
 {
     let a = settings(w);
     let b = small(w);
-    let c = since(w, 3611, 255);
-    let d = since(w, 3617, 0xffff_ffff);
+    let c = since(w, at::STALL, limits::MAX_SEAT);
+    let d = since(w, at::STUCK, limits::MAX_HEIGHT);
     let e = cold(w);
     let f = hedged(w);
     let g = observation(w);
     let h = probe(w);
-    let i = any_bits(w, 3681, 415);
+    let i = any_bits(w, at::KEPT, head::KEPT_WORDS);
     a & b & c & d & e & f & g & h & (i == 0)
 }
 

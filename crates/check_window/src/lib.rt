@@ -8,6 +8,9 @@ ghost use lib.Dec.{eqb, ltb, leb};
 ghost use Rattle.model.specs.Layout.{is-window};
 ghost use Rattle.model.specs.Refusals.{is-long};
 ghost use Rattle.facts.specs.Words.{count, clock, blank-at, tails-zero, unused-zero, fields-fit, rises, records-fit, total-fits, earlier, oldest-of, start-by, most-raced, seat-by, seats-fit};
+use model::at;
+use model::limits;
+use model::sizes;
 
 // ---- what must be 0
 
@@ -17,13 +20,13 @@ fn place(w: &[u64], i: usize) -> u64
     ensures { λ r. ⌜ eqb r 0 ≡ blank-at (now (w .entry)) i ⌝ }
 {
     w[i]
-        | w[256 + i]
-        | w[512 + i]
-        | w[768 + i]
-        | w[1024 + i]
-        | w[1280 + i]
-        | w[1536 + i]
-        | w[1792 + i]
+        | w[at::HASH_B + i]
+        | w[at::HASH_C + i]
+        | w[at::HASH_D + i]
+        | w[at::OWNERS + i]
+        | w[at::TIMES + i]
+        | w[at::HEIGHTS + i]
+        | w[at::ESTIMATES + i]
 }
 
 // OR of the places after the records.
@@ -31,8 +34,8 @@ fn tails(w: &[u64]) -> u64
     requires { ⌜ (length (now w) ≡ 4096) × (count (now w) ≤ 256) ⌝ }
     ensures { λ r. ⌜ eqb r 0 ≡ tails-zero (now (w .entry)) ⌝ }
 {
-    let n = check_head::to_usize(w[3585]);
-    let m = 256 - n;
+    let n = check_head::to_usize(w[at::COUNT]);
+    let m = sizes::PLACES - n;
     let mut acc: u64 = 0;
     for k in 0..m {
         acc = acc | place(w, n + k);
@@ -46,7 +49,7 @@ fn unused(w: &[u64]) -> bool
     ensures { λ r. ⌜ r ≡ unused-zero (now (w .entry)) ⌝ }
 {
     let t = tails(w);
-    let u = check_head::any_bits(w, 2048, 256);
+    let u = check_head::any_bits(w, at::SPARE, sizes::PLACES);
     (t | u) == 0
 }
 
@@ -63,13 +66,13 @@ fn rising(w: &[u64], i: usize) -> bool
     let j = i - 1;
     hash::less_words(
         w[j],
-        w[256 + j],
-        w[512 + j],
-        w[768 + j],
+        w[at::HASH_B + j],
+        w[at::HASH_C + j],
+        w[at::HASH_D + j],
         w[i],
-        w[256 + i],
-        w[512 + i],
-        w[768 + i],
+        w[at::HASH_B + i],
+        w[at::HASH_C + i],
+        w[at::HASH_D + i],
     )
 }
 
@@ -78,12 +81,12 @@ fn fields(w: &[u64], i: usize) -> bool
     requires { ⌜ (length (now w) ≡ 4096) × (i < 256) ⌝ }
     ensures { λ r. ⌜ r ≡ fields-fit (now (w .entry)) i ⌝ }
 {
-    let x = w[1792 + i];
-    (w[1024 + i] <= 255)
-        & (w[1280 + i] <= w[3586])
-        & (w[1536 + i] <= 0xffff_ffff)
-        & (80 <= x)
-        & (x <= 0xffff_ffff)
+    let x = w[at::ESTIMATES + i];
+    (w[at::OWNERS + i] <= limits::MAX_SEAT)
+        & (w[at::TIMES + i] <= w[at::LAST_CLOCK])
+        & (w[at::HEIGHTS + i] <= limits::MAX_HEIGHT)
+        & (limits::MIN_ESTIMATE <= x)
+        & (x <= limits::MAX_ESTIMATE)
 }
 
 // The earlier of the time t and the stored time m.
@@ -99,6 +102,8 @@ fn sooner(t: u64, m: u64) -> u64
 }
 
 // ---- seats: a word's top bit says what is wrong
+
+const TOP_BIT: u64 = 0x8000_0000_0000_0000;
 
 // No top bit exactly when x is at most max.
 fn over(max: u64, x: u64) -> u64
@@ -126,7 +131,7 @@ fn seat_top(latest: u64, most: u64, g: u64, a: u64, l: u64, k: u64, c: u64, p: u
 {
     let t = start_top(latest, g, a);
     let u = over(latest, l);
-    let v = over(255, k);
+    let v = over(limits::MAX_SEAT, k);
     let x = over(latest, c);
     let y = over(most, p);
     t | u | v | x | y
@@ -139,33 +144,33 @@ fn raced(since: u64) -> u64
     if since == 0 {
         return 0;
     }
-    256
+    limits::MAX_STORED_PROGRESS
 }
 
 // The tables, in one loop with no exit.
-fn seats(w: &[u64], first: &[u64; 256]) -> bool
+fn seats(w: &[u64], first: &[u64; sizes::SEATS]) -> bool
     requires { ⌜ (length (now w) ≡ 4096) × (clock (now w) ≤ 4611686018427387904) ⌝ }
     requires { ⌜ ((s : ℕ) → getD (now first) s 0 ≡ oldest-of (now w) s (count (now w))) ⌝ }
     requires { ⌜ ((s : ℕ) → getD (now first) s 0 < 2 ^ 63) ⌝ }
     ensures { λ r. ⌜ r ≡ seats-fit (now (w .entry)) ⌝ }
 {
-    let latest = w[3586] + 1;
-    let most = raced(w[3645]);
+    let latest = w[at::LAST_CLOCK] + 1;
+    let most = raced(w[at::PROBE]);
     let mut acc: u64 = 0;
-    for s in 0..256 {
+    for s in 0..sizes::SEATS {
         let t = seat_top(
             latest,
             most,
             first[s],
-            w[2304 + s],
-            w[2560 + s],
-            w[2816 + s],
-            w[3072 + s],
-            w[3328 + s],
+            w[at::STARTS + s],
+            w[at::BODIES + s],
+            w[at::KEYS + s],
+            w[at::COOLING + s],
+            w[at::RACERS + s],
         );
         acc = acc | t;
     }
-    acc < 0x8000_0000_0000_0000
+    acc < TOP_BIT
 }
 
 // Records in one loop, which fills the table of each seat's oldest; then the seats.
@@ -173,8 +178,8 @@ fn records(w: &[u64]) -> bool
     requires { ⌜ (length (now w) ≡ 4096) × (count (now w) ≤ 256) × (clock (now w) ≤ 4611686018427387904) ⌝ }
     ensures { λ r. ⌜ r ≡ (records-fit (now (w .entry)) && total-fits (now (w .entry)) && seats-fit (now (w .entry))) ⌝ }
 {
-    let n = check_head::to_usize(w[3585]);
-    let mut first = [0u64; 256];
+    let n = check_head::to_usize(w[at::COUNT]);
+    let mut first = [0u64; sizes::SEATS];
     let mut sum: u64 = 0;
     for i in 0..n {
         if !fields(w, i) {
@@ -183,13 +188,13 @@ fn records(w: &[u64]) -> bool
         if !rising(w, i) {
             return false;
         }
-        let s = check_head::to_usize(w[1024 + i]);
-        let t = w[1280 + i];
+        let s = check_head::to_usize(w[at::OWNERS + i]);
+        let t = w[at::TIMES + i];
         let m = first[s];
         first[s] = sooner(t, m);
-        sum = sum + w[1792 + i];
+        sum = sum + w[at::ESTIMATES + i];
     }
-    if sum != w[3587] {
+    if sum != w[at::TOTAL] {
         return false;
     }
     seats(w, &first)
@@ -201,7 +206,7 @@ fn records(w: &[u64]) -> bool
 pub fn is_window(words: &[u64]) -> bool
     ensures { λ r. ⌜ r ≡ (is-long (now (words .entry)) && is-window (now (words .entry))) ⌝ }
 {
-    if words.len() != 4096 {
+    if words.len() != at::WORDS {
         return false;
     }
     if !check_head::head(words) {

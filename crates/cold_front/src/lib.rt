@@ -15,6 +15,7 @@ use model::ColdFront;
 use model::Entry;
 use model::Front;
 use model::Hash;
+use model::limits;
 
 // The model's `Hedge`: an owner and a hash to hedge, where there is one.
 pub enum Ask {
@@ -132,7 +133,7 @@ fn next_turn(words: &[u64], next: u64, clock: u64) -> Turn
     if pace.mean != 0 {
         return idle();
     }
-    if 2 <= state_races::hedged_count(words) {
+    if limits::MAX_COLD_FRONT_HEDGES <= state_races::hedged_count(words) {
         return idle();
     }
     // 01's name for it; it is any entry at the next height, as the Rust has it.
@@ -179,7 +180,7 @@ pub fn confirm_cold_front_hedge(words: &mut [u64], owner: u64, alternate: u64, h
         state::set_cold(words, racing);
         return;
     }
-    if 2 <= state_races::hedged_count(words) {
+    if limits::MAX_COLD_FRONT_HEDGES <= state_races::hedged_count(words) {
         return;
     }
     state_races::push_hedged(words, h);

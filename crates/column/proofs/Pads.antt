@@ -7,7 +7,8 @@ use native.Mathlib.Nat.{le-of-suc-le-suc, not-suc-le-zero}
 use native.Mathlib.Omega.{arith}
 use lib.ListN.{length, take, drop, replicate, length-append, length-replicate, replicate-append-replicate}
 use lib.Seq.{take-at}
-use Rattle.model.specs.Lists.{removeAt, insertAt, inserted, keepBy, keptBy, pad}
+use Rattle.model.specs.Lists.{pad}
+use Rattle.column.specs.Edits.{removeAt, insertAt, inserted, keepBy, keptBy}
 use Rattle.column.proofs.Laws.{length-kept, length-inserted}
 
 module _ {A : Type 0} where

@@ -6,7 +6,7 @@ ghost use mathlib.Core.List.{_++_, _∷_, []};
 ghost use Prim.Native.Nat.{_-_, _<_, _≤_};
 ghost use lib.ListN.{length, set, take, replicate};
 ghost use lib.Dec.{eqb};
-ghost use Rattle.model.specs.Lists.{removeAt, inserted, keptBy};
+ghost use Rattle.column.specs.Edits.{removeAt, inserted, keptBy};
 
 // Takes the word at `at` out: those after it move one place down, and the last place becomes 0.
 pub fn remove_at(col: &mut [u64], at: usize)

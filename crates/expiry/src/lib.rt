@@ -14,6 +14,7 @@ ghost use Rattle.laws.specs.Whole.{Whole};
 ghost use Rattle.records.specs.Places.{front-at};
 ghost use Rattle.expiry.specs.Late.{late, LateBy, Seated};
 use model::Front;
+use model::at;
 
 // `effective-owner-timeout` by the window's own active count.
 pub fn owner_timeout(words: &[u64]) -> u64
@@ -40,7 +41,7 @@ fn is_late(words: &[u64], i: usize, limit: u64) -> bool
     requires { ⌜ (length (now words) ≡ 4096) × (i < 256) × (getD (now words) (i + 1024) 0 < 256) ⌝ }
     ensures { λ r. ⌜ LateBy limit (decode (now (words .entry)) .starts) (entry-at (drop i (now (words .entry)))) r ⌝ }
 {
-    let owner = words[i + 1024] as usize;
+    let owner = words[i + at::OWNERS] as usize;
     let start = seats::start_of(words, owner);
     time::reached(limit, start)
 }
@@ -52,11 +53,11 @@ fn lowest_late(words: &[u64], count: usize, timeout: u64, clock: u64) -> usize
 {
     let limit = time::expiry_limit(clock, timeout);
     let mut best = count;
-    let mut low = 0xFFFF_FFFF_FFFF_FFFF;
+    let mut low = u64::MAX;
     let mut i = count;
     while 0 < i {
         i -= 1;
-        let g = words[i + 1536];
+        let g = words[i + at::HEIGHTS];
         if g <= low {
             if is_late(words, i, limit) {
                 best = i;

@@ -22,6 +22,7 @@ use model::Requested;
 use model::Sought;
 use model::Source;
 use model::Truth;
+use model::sizes;
 
 #[repr(C)]
 pub struct FlatNumber {
@@ -93,7 +94,7 @@ pub struct FlatPlan {
 
 #[repr(C)]
 pub struct FlatHashes {
-    pub words: [u64; 32],
+    pub words: [u64; sizes::PLANNED_WORDS],
 }
 
 pub fn of_accepted(a: Accepted) -> u64

@@ -7,7 +7,8 @@ use native.Mathlib.Nat.{zero-add}
 use lib.ListN.{length, take, drop, replicate}
 use lib.Seq.{drop-at, take-append-add, drop-append-add}
 use Rattle.column.proofs.Pads.{removed-pad, inserted-pad, kept-pad}
-use Rattle.model.specs.Lists.{pad, removeAt, insertAt, keepBy}
+use Rattle.model.specs.Lists.{pad}
+use Rattle.column.specs.Edits.{removeAt, insertAt, keepBy}
 use Rattle.model.specs.Layout.{blank, table, flag-word, source-word, settings-words, stall-words, stuck-words, cold-words, hedged-words, observation-words, probe-words, planned-words, counts-words, small-words, head-words}
 use Rattle.model.specs.Window.{Window, HighWater, queue, with-clock, with-mean, with-frontier, with-high, with-queue, with-cooling, with-fanout, with-pace, with-cold, with-hedged, with-preferred, with-probe, with-attempted, with-stall, with-stuck, with-observation}
 use Rattle.model.specs.declared.Hash.{Hash}

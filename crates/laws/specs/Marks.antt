@@ -6,7 +6,7 @@ use Prim.Native.Nat.{ℕ, zero, suc, _+_, _-_, _≤_, _<_}
 use native.Mathlib.Nat.{le-of-suc-le-suc, not-suc-le-zero}
 use native.Mathlib.Omega.{arith}
 use lib.ListN.{length, getD, take, drop}
-use Rattle.model.specs.Lists.{keptIf, keepBy}
+use Rattle.column.specs.Edits.{keptIf, keepBy}
 use Rattle.model.specs.Reasons.{release}
 use Rattle.model.specs.Window.{Window, queue, Step, with-queue, with-frontier}
 use Rattle.model.specs.LettingGo.{if-gone, if-kept, gone, kept, total-after, frontier-after, extract}

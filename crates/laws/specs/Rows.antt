@@ -9,7 +9,7 @@ use lib.ListN.{length, take, drop, getD, replicate, length-drop, length-map, dro
 use lib.Seq.{drop-cons, drop-drop, take-take, length-take-le, getD-take, getD-drop}
 use borrow.Author.Count.{below-more}
 use Rattle.column.proofs.Parts.{put, put-long, put-part, put-after, put-lower, put-higher, take-drop}
-use Rattle.model.specs.Lists.{removeAt, insertAt, inserted, keepBy, keptBy}
+use Rattle.column.specs.Edits.{removeAt, insertAt, inserted, keepBy, keptBy}
 use Rattle.model.specs.Layout.{blank, entry-at, rows, field}
 use Rattle.model.specs.declared.Entry.{Entry}
 

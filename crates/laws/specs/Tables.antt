@@ -6,7 +6,7 @@ use native.Mathlib.Omega.{arith}
 use lib.ListN.{length, take, drop, getD, length-append, length-drop, length-map, take-append-drop, set}
 use lib.Seq.{drop-drop, take-add, length-take-le, getD-take, getD-drop, take-at, drop-at, drop-append-le}
 use Rattle.column.proofs.Parts.{put, put-long, put-part, put-before, put-after, put-lower, put-higher, take-drop}
-use Rattle.model.specs.Lists.{removeAt, inserted, keptBy}
+use Rattle.column.specs.Edits.{removeAt, inserted, keptBy}
 use Rattle.model.specs.Hash.{hashes-words}
 use Rattle.model.specs.Seats.{start-reset, body-reset, keep-seats}
 use Rattle.model.specs.LettingGo.{flagged}

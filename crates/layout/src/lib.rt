@@ -13,6 +13,9 @@ use model::Hash;
 use model::Pace;
 use model::Settings;
 use model::Source;
+use model::at;
+use model::head;
+use model::sizes;
 
 // ---- single words
 
@@ -20,7 +23,7 @@ pub fn word_of(words: &[u64], k: usize) -> u64
     requires { ⌜ (length (now words) ≡ 4096) × (k < 512) ⌝ }
     ensures { λ r. ⌜ r ≡ word k (decode (now (words .entry))) ⌝ }
 {
-    words[3584 + k]
+    words[at::HEAD + k]
 }
 
 // Some words written at a place of the head.
@@ -28,7 +31,7 @@ pub fn store_at(words: &mut [u64], k: usize, list: &[u64])
     requires { ⌜ (length (now words) ≡ 4096) × (k + length (now list) ≤ 512) ⌝ }
     ensures { λ _. ⌜ decode (now (words .exit)) ≡ with-words k (now (list .entry)) (decode (now (words .entry))) ⌝ }
 {
-    let a = 3584 + k;
+    let a = at::HEAD + k;
     let e = a + list.len();
     column::copy_over(&mut words[a..e], list);
 }
@@ -46,7 +49,7 @@ pub fn hash_of(words: &[u64], k: usize) -> Hash
     requires { ⌜ (length (now words) ≡ 4096) × (k + 4 ≤ 512) ⌝ }
     ensures { λ r. ⌜ r ≡ hash-at k (decode (now (words .entry))) ⌝ }
 {
-    let a = 3584 + k;
+    let a = at::HEAD + k;
     Hash {
         a: words[a],
         b: words[a + 1],
@@ -62,22 +65,22 @@ pub fn load_settings(words: &[u64]) -> Settings
     ensures { λ r. ⌜ r ≡ settings-of (decode (now (words .entry))) ⌝ }
 {
     Settings {
-        max_pending_blocks: words[3592],
-        max_pending_bytes: words[3593],
-        max_received_blocks: words[3594],
-        max_peer_inflight: words[3595],
-        fanout_peer_inflight: words[3596],
-        min_peers_for_fanout: words[3597],
-        getdata_batch_limit: words[3598],
-        block_spacing: words[3599],
-        received_timeout: words[3600],
-        stall_timeout_initial: words[3601],
-        stall_timeout_max: words[3602],
-        staller_cooldown: words[3603],
+        max_pending_blocks: words[at::MAX_PENDING_BLOCKS],
+        max_pending_bytes: words[at::MAX_PENDING_BYTES],
+        max_received_blocks: words[at::MAX_RECEIVED_BLOCKS],
+        max_peer_inflight: words[at::MAX_PEER_INFLIGHT],
+        fanout_peer_inflight: words[at::FANOUT_PEER_INFLIGHT],
+        min_peers_for_fanout: words[at::MIN_PEERS_FOR_FANOUT],
+        getdata_batch_limit: words[at::GETDATA_BATCH_LIMIT],
+        block_spacing: words[at::BLOCK_SPACING],
+        received_timeout: words[at::RECEIVED_TIMEOUT],
+        stall_timeout_initial: words[at::STALL_TIMEOUT_INITIAL],
+        stall_timeout_max: words[at::STALL_TIMEOUT_MAX],
+        staller_cooldown: words[at::STALLER_COOLDOWN],
     }
 }
 
-fn settings_list(b: Settings) -> [u64; 12]
+fn settings_list(b: Settings) -> [u64; sizes::SETTINGS_WORDS]
     ensures { λ r. ⌜ r ≡ settings-words b ⌝ }
 {
     [
@@ -101,16 +104,16 @@ pub fn store_settings(words: &mut [u64], b: Settings)
     ensures { λ _. ⌜ decode (now (words .exit)) ≡ with-words 8 (settings-words b) (decode (now (words .entry))) ⌝ }
 {
     let l = settings_list(b);
-    store_at(words, 8, &l);
+    store_at(words, head::MAX_PENDING_BLOCKS, &l);
 }
 
 pub fn load_fanout(words: &[u64]) -> Fanout
     requires { ⌜ length (now words) ≡ 4096 ⌝ }
     ensures { λ r. ⌜ r ≡ fanout-of (decode (now (words .entry))) ⌝ }
 {
-    let engaged = words[3605] == 1;
+    let engaged = words[at::FANOUT_ENGAGED] == 1;
     Fanout {
-        eligible: words[3604],
+        eligible: words[at::FANOUT_ELIGIBLE],
         engaged,
     }
 }
@@ -131,7 +134,7 @@ pub fn store_fanout(words: &mut [u64], f: Fanout)
 {
     let b = flag_word(f.engaged);
     let l = [f.eligible, b];
-    store_at(words, 20, &l);
+    store_at(words, head::FANOUT_ELIGIBLE, &l);
 }
 
 pub fn load_pace(words: &[u64]) -> Pace
@@ -139,9 +142,9 @@ pub fn load_pace(words: &[u64]) -> Pace
     ensures { λ r. ⌜ r ≡ pace (word 22 (decode (now (words .entry)))) (word 23 (decode (now (words .entry)))) (word 24 (decode (now (words .entry)))) ⌝ }
 {
     Pace {
-        mean: words[3606],
-        advance: words[3607],
-        wait: words[3608],
+        mean: words[at::FRONT_MEAN],
+        advance: words[at::FRONT_ADVANCE],
+        wait: words[at::STALL_TIMEOUT],
     }
 }
 
@@ -150,7 +153,7 @@ pub fn store_pace(words: &mut [u64], p: Pace)
     ensures { λ _. ⌜ decode (now (words .exit)) ≡ with-words 22 (pace-list p) (decode (now (words .entry))) ⌝ }
 {
     let l = [p.mean, p.advance, p.wait];
-    store_at(words, 22, &l);
+    store_at(words, head::FRONT_MEAN, &l);
 }
 
 // ---- seats that may be missing
@@ -180,7 +183,7 @@ pub fn load_preferred(words: &[u64]) -> Source
     requires { ⌜ length (now words) ≡ 4096 ⌝ }
     ensures { λ r. ⌜ r ≡ source-of (word 25 (decode (now (words .entry)))) ⌝ }
 {
-    let s = word_of(words, 25);
+    let s = word_of(words, head::PREFERRED);
     source_of(s)
 }
 
@@ -189,14 +192,14 @@ pub fn store_preferred(words: &mut [u64], s: Source)
     ensures { λ _. ⌜ decode (now (words .exit)) ≡ with-words 25 (source-word s ∷ []) (decode (now (words .entry))) ⌝ }
 {
     let v = source_word(s);
-    set_word(words, 25, v);
+    set_word(words, head::PREFERRED, v);
 }
 
 pub fn load_attempted(words: &[u64]) -> Source
     requires { ⌜ length (now words) ≡ 4096 ⌝ }
     ensures { λ r. ⌜ r ≡ source-of (word 26 (decode (now (words .entry)))) ⌝ }
 {
-    let s = word_of(words, 26);
+    let s = word_of(words, head::ATTEMPTED);
     source_of(s)
 }
 
@@ -205,5 +208,5 @@ pub fn store_attempted(words: &mut [u64], s: Source)
     ensures { λ _. ⌜ decode (now (words .exit)) ≡ with-words 26 (source-word s ∷ []) (decode (now (words .entry))) ⌝ }
 {
     let v = source_word(s);
-    set_word(words, 26, v);
+    set_word(words, head::ATTEMPTED, v);
 }

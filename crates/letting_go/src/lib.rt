@@ -19,6 +19,8 @@ use model::LetGo;
 use model::Received;
 use model::Rejected;
 use model::Source;
+use model::limits;
+use model::sizes;
 
 // The last clock is set last, and the answer counts what went.
 fn gone_at(words: &mut [u64], n: usize, moment: u64) -> LetGo
@@ -164,7 +166,7 @@ pub fn retain_owned_by(words: &mut [u64], room: usize, gone: &mut [u64], flags: 
         × (places (let-go-says r) ≤ 256)
         ⌝ }
 {
-    let k = admission::timeless_report_refused_by(words, room, flags.len() == 256);
+    let k = admission::timeless_report_refused_by(words, room, flags.len() == sizes::SEATS);
     if k != 0 {
         return LetGo::Refused(k);
     }
@@ -193,7 +195,7 @@ pub fn credit_delivery_from(
         × (places (let-go-says r) ≤ 256)
         ⌝ }
 {
-    let k = admission::report_refused_by(words, room, clock, source <= 255);
+    let k = admission::report_refused_by(words, room, clock, source <= limits::MAX_SEAT);
     if k != 0 {
         return LetGo::Refused(k);
     }

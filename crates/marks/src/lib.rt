@@ -12,6 +12,8 @@ ghost use Rattle.model.specs.LettingGo.{sweep-reason, lost-reason, flagged, for
 ghost use Rattle.model.specs.Layout.{window-of};
 ghost use Rattle.laws.specs.Batches.{retire-reason};
 ghost use Rattle.laws.specs.Pending.{Ranged};
+use model::at;
+use model::sizes;
 
 // What a sweep would take of expired owners: how many entries, and their bytes.
 pub struct Forecast {
@@ -45,18 +47,24 @@ fn sweep_mark(clock: u64, timeout: u64, wait: u64, time: u64, start: u64, body: 
 }
 
 // `sweep-reason`
-pub fn sweep_marks(words: &[u64], count: usize, clock: u64, timeout: u64, wait: u64) -> [u64; 256]
+pub fn sweep_marks(
+    words: &[u64],
+    count: usize,
+    clock: u64,
+    timeout: u64,
+    wait: u64,
+) -> [u64; sizes::PLACES]
     requires { ⌜ (length (now words) ≡ 4096) × ((count ≡ length (window-of (now words) .queue .pending)) × ((wait ≡ window-of (now words) .pace .wait) × (Ranged (window-of (now words)) × (clock ≤ max-clock)))) ⌝ }
     ensures { λ r. ⌜ take count r ≡ map (sweep-reason clock timeout (window-of (now (words .entry)))) (window-of (now (words .entry)) .queue .pending) ⌝ }
 {
-    let mut marks = [0; 256];
+    let mut marks = [0; sizes::PLACES];
     let mut i = 0;
     while i < count {
-        let o = words[i + 1024];
+        let o = words[i + at::OWNERS];
         let owner = o as usize;
-        let start = words[2304 + owner];
-        let body = words[2560 + owner];
-        marks[i] = sweep_mark(clock, timeout, wait, words[i + 1280], start, body);
+        let start = words[at::STARTS + owner];
+        let body = words[at::BODIES + owner];
+        marks[i] = sweep_mark(clock, timeout, wait, words[i + at::TIMES], start, body);
         i += 1;
     }
     marks
@@ -74,14 +82,14 @@ fn retire_mark(height: u64, limit: u64) -> u64
 }
 
 // `retire-reason`
-pub fn retire_marks(words: &[u64], count: usize, height: u64) -> [u64; 256]
+pub fn retire_marks(words: &[u64], count: usize, height: u64) -> [u64; sizes::PLACES]
     requires { ⌜ (length (now words) ≡ 4096) × (count ≡ length (window-of (now words) .queue .pending)) ⌝ }
     ensures { λ r. ⌜ take count r ≡ map (retire-reason height) (window-of (now (words .entry)) .queue .pending) ⌝ }
 {
-    let mut marks = [0; 256];
+    let mut marks = [0; sizes::PLACES];
     let mut i = 0;
     while i < count {
-        marks[i] = retire_mark(words[i + 1536], height);
+        marks[i] = retire_mark(words[i + at::HEIGHTS], height);
         i += 1;
     }
     marks
@@ -99,14 +107,14 @@ fn lost_mark(flag: u64, reason: u64) -> u64
 }
 
 // `lost-reason` by flags, nonzero for a seat that is kept.
-pub fn lost_marks(words: &[u64], count: usize, flags: &[u64], reason: u64) -> [u64; 256]
+pub fn lost_marks(words: &[u64], count: usize, flags: &[u64], reason: u64) -> [u64; sizes::PLACES]
     requires { ⌜ (length (now words) ≡ 4096) × ((count ≡ length (window-of (now words) .queue .pending)) × ((length (now flags) ≡ 256) × Ranged (window-of (now words)))) ⌝ }
     ensures { λ r. ⌜ take count r ≡ map (lost-reason (flagged (now (flags .entry))) reason) (window-of (now (words .entry)) .queue .pending) ⌝ }
 {
-    let mut marks = [0; 256];
+    let mut marks = [0; sizes::PLACES];
     let mut i = 0;
     while i < count {
-        let o = words[i + 1024];
+        let o = words[i + at::OWNERS];
         let owner = o as usize;
         marks[i] = lost_mark(flags[owner], reason);
         i += 1;
@@ -141,10 +149,10 @@ pub fn forecast_of(words: &[u64], count: usize, clock: u64, timeout: u64) -> For
     let mut i = count;
     while 0 < i {
         i -= 1;
-        let o = words[i + 1024];
+        let o = words[i + at::OWNERS];
         let owner = o as usize;
-        let is = time::reached(limit, words[2304 + owner]);
-        f = counted(f, is, words[i + 1792]);
+        let is = time::reached(limit, words[at::STARTS + owner]);
+        f = counted(f, is, words[i + at::ESTIMATES]);
     }
     f
 }

@@ -1,10 +1,10 @@
 -- 01, module 9: requests, deliveries and rejections. Definitions only.
-use Prim.Native.Nat.{ℕ, zero, suc, _+_, _-_, _*_, _/_}
+use Prim.Native.Nat.{ℕ, suc, _+_, _-_, _*_, _/_}
 use mathlib.Core.Bool.{Bool, true, false, cond, not, _&&_, _||_}
-use mathlib.Core.List.{List, [], _∷_, _++_}
+use mathlib.Core.List.{List, [], _∷_}
 use lib.ListN.{length, getD, set}
 use lib.Dec.{eqb, ltb, leb}
-use Rattle.model.specs.Numbers.{greater, min-estimate, age}
+use Rattle.model.specs.Numbers.{greater, min-estimate}
 use Rattle.model.specs.Hash.{same, hash}
 use Rattle.model.specs.Window.{Window, Queue, queue, HighWater, Step, stay, and-then, after, window, races, watch, with-queue, with-mean, with-frontier, with-high, with-cold, with-preferred, with-attempted, with-stall, with-observation, with-pace, with-fanout, without-probe, no-seats}
 use Rattle.model.specs.Records.{new-entry, insert, found, is-there, pending-count-for}
@@ -16,7 +16,6 @@ use Rattle.model.specs.Races.{is-empty, resolve-cold-front-delivery, rec
 use Rattle.model.specs.declared.Hash.{Hash}
 use Rattle.model.specs.declared.Entry.{Entry}
 use Rattle.model.specs.declared.Settings.{Settings}
-use Rattle.model.specs.declared.Fanout.{Fanout}
 use Rattle.model.specs.declared.Front.{Front}
 use Rattle.model.specs.declared.Front.the-variants.{Nothing, At}
 use Rattle.model.specs.declared.Source.{Source}

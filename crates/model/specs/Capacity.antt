@@ -1,7 +1,7 @@
 -- 01, module 6: how much may be asked for. The headrooms are handed in, as the Rust finds them. Definitions only.
-use Prim.Native.Nat.{ℕ, zero, suc, _+_, _-_}
-use mathlib.Core.Bool.{Bool, true, false, _||_, cond}
-use mathlib.Core.List.{List, [], _∷_}
+use Prim.Native.Nat.{ℕ, _+_, _-_}
+use mathlib.Core.Bool.{Bool, _||_, cond}
+use mathlib.Core.List.{[], _∷_}
 use lib.ListN.{length}
 use lib.Dec.{eqb, ltb, leb}
 use Rattle.model.specs.Numbers.{lesser, greater, div-ceil}

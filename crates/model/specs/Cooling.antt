@@ -1,6 +1,6 @@
 -- 01, module 5: peers that were found unresponsive, by key. Definitions only.
-use Prim.Native.Nat.{ℕ, zero, suc}
-use mathlib.Core.Bool.{Bool, true, false, _&&_, cond}
+use Prim.Native.Nat.{ℕ, suc}
+use mathlib.Core.Bool.{Bool, _&&_, cond}
 use mathlib.Core.List.{List, map}
 use lib.ListN.{getD, set}
 use lib.Dec.{ltb}

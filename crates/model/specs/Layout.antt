@@ -10,7 +10,8 @@ use mathlib.Core.Bool.{Bool, true, false, cond, _&&_}
 use mathlib.Core.List.{List, [], _∷_, _++_, map}
 use lib.ListN.{length, getD, take, drop, replicate}
 use lib.Dec.{eqb, ltb, leb}
-use Rattle.model.specs.Numbers.{max-clock, max-height, min-estimate, max-estimate, max-duration, max-byte-limit, max-count, max-pending, max-seat, max-front-mean}
+use Rattle.model.specs.Places.{places, seats, hedges, probed, stall-size, stuck-size, cold-size, hedged-size, observation-size, planned-size, probe-size, kept-size, at-hash-a, at-hash-b, at-hash-c, at-hash-d, at-owners, at-times, at-heights, at-estimates, at-spare, at-starts, at-bodies, at-keys, at-cooling, at-racers, at-head, head-format, head-count, head-last-clock, head-total, head-high-blocks, head-high-bytes, head-mean, head-frontier, head-max-pending-blocks, head-max-pending-bytes, head-max-received-blocks, head-max-peer-inflight, head-fanout-peer-inflight, head-min-peers-for-fanout, head-getdata-batch-limit, head-block-spacing, head-received-timeout, head-stall-timeout-initial, head-stall-timeout-max, head-staller-cooldown, head-fanout-eligible, head-fanout-engaged, head-front-mean, head-front-advance, head-stall-timeout, head-preferred, head-attempted, head-stall, head-stall-owner, head-stall-hash, head-stuck, head-stuck-height, head-stuck-hash, head-cold, head-cold-owner, head-cold-other, head-cold-hash, head-hedged, head-hedged-hashes, head-observation, head-observation-owner, head-observation-hash, head-probe, head-probe-owner, head-probe-count, head-probe-accepted, head-probe-hashes, head-kept}
+use Rattle.model.specs.Numbers.{max-clock, max-height, min-estimate, max-estimate, max-duration, max-byte-limit, max-count, max-pending, max-seat, max-front-mean, max-progress}
 use Rattle.model.specs.Lists.{pad, all, every}
 use Rattle.model.specs.Hash.{hash, less, hashes-in, hashes-words, hash-words}
 use Rattle.model.specs.Records.{sum}
@@ -52,11 +53,11 @@ blank = record { hash = hash 0 0 0 0; owner = 0; time = 0; height = 0; estimate 
 -- the entry whose first word is the first of ws
 unfoldable pub entry-at : List ℕ → Entry
 entry-at ws = record {
-  hash = hash (getD ws 0 0) (getD ws 256 0) (getD ws 512 0) (getD ws 768 0);
-  owner = getD ws 1024 0;
-  time = getD ws 1280 0;
-  height = getD ws 1536 0;
-  estimate = getD ws 1792 0;
+  hash = hash (getD ws at-hash-a 0) (getD ws at-hash-b 0) (getD ws at-hash-c 0) (getD ws at-hash-d 0);
+  owner = getD ws at-owners 0;
+  time = getD ws at-times 0;
+  height = getD ws at-heights 0;
+  estimate = getD ws at-estimates 0;
 }
 
 -- the first n places
@@ -66,14 +67,14 @@ rows (suc n) ws = entry-at ws ∷ rows n (drop 1 ws)
 
 unfoldable pub decode : List ℕ → Table
 decode ws = record {
-  entries = rows 256 ws;
-  spare = take 256 (drop 2048 ws);
-  starts = take 256 (drop 2304 ws);
-  bodies = take 256 (drop 2560 ws);
-  keys = take 256 (drop 2816 ws);
-  cooling = take 256 (drop 3072 ws);
-  racers = take 256 (drop 3328 ws);
-  head = drop 3584 ws;
+  entries = rows places ws;
+  spare = take places (drop at-spare ws);
+  starts = take seats (drop at-starts ws);
+  bodies = take seats (drop at-bodies ws);
+  keys = take seats (drop at-keys ws);
+  cooling = take seats (drop at-cooling ws);
+  racers = take seats (drop at-racers ws);
+  head = drop at-head ws;
 }
 
 -- ---- table to words
@@ -102,87 +103,87 @@ columns (suc k) es = columns k es ++ map (field k) es
 unfoldable pub flat : Table → List ℕ
 flat t = columns column-count (t .entries) ++ (t .spare ++ (t .starts ++ (t .bodies ++ (t .keys ++ (t .cooling ++ (t .racers ++ t .head))))))
 
--- ---- the head's words, group by group; the number before each is its first place in the head
+-- ---- the head's words, group by group
 
--- 8
+-- from `head-max-pending-blocks` on
 unfoldable pub settings-words : Settings → List ℕ
 settings-words b =
     b .«max_pending_blocks» ∷ b .«max_pending_bytes» ∷ b .«max_received_blocks» ∷ b .«max_peer_inflight» ∷ b .«fanout_peer_inflight»
     ∷ b .«min_peers_for_fanout» ∷ b .«getdata_batch_limit» ∷ b .«block_spacing» ∷ b .«received_timeout» ∷ b .«stall_timeout_initial»
     ∷ b .«stall_timeout_max» ∷ b .«staller_cooldown» ∷ []
 
--- 21
+-- `head-fanout-engaged`
 abbrev pub flag-word : Bool → ℕ
 flag-word false = 0
 flag-word true = 1
 
--- 25, 26: a seat that may be missing
+-- `head-preferred`, `head-attempted`: a seat that may be missing
 abbrev pub source-word : Source → ℕ
 source-word Missing = 0
 source-word (From s) = suc s
 
--- 27
+-- from `head-stall` on
 abbrev pub stall-words : Stall → List ℕ
-stall-words Calm = replicate 6 0
+stall-words Calm = replicate stall-size 0
 stall-words (Episode owner h since) = suc since ∷ owner ∷ hash-words h
 
--- 33
+-- from `head-stuck` on
 abbrev pub stuck-words : Stuck → List ℕ
-stuck-words Moving = replicate 6 0
+stuck-words Moving = replicate stuck-size 0
 stuck-words (StuckAt height h since) = suc since ∷ height ∷ hash-words h
 
--- 39
+-- from `head-cold` on
 abbrev pub cold-words : ColdFront → List ℕ
-cold-words Idle = replicate 7 0
+cold-words Idle = replicate cold-size 0
 cold-words (Waiting owner h since) = 1 ∷ owner ∷ suc since ∷ hash-words h
 cold-words (Racing owner alternate h) = 2 ∷ owner ∷ alternate ∷ hash-words h
 
--- 46
+-- from `head-hedged` on
 unfoldable pub hedged-words : List Hash → List ℕ
-hedged-words hs = length hs ∷ pad 8 0 (hashes-words hs)
+hedged-words hs = length hs ∷ pad hedged-size 0 (hashes-words hs)
 
--- 55
+-- from `head-observation` on
 abbrev pub observation-words : Observation → List ℕ
-observation-words Unarmed = replicate 6 0
+observation-words Unarmed = replicate observation-size 0
 observation-words (Armed owner h) = 1 ∷ owner ∷ hash-words h
 observation-words (Swept owner h) = 2 ∷ owner ∷ hash-words h
 
--- 61
+-- from `head-probe` on
 abbrev pub probe-words : Probe → ℕ → List ℕ
 probe-words NoProbe n = 0 ∷ 0 ∷ n ∷ 0 ∷ []
 probe-words (Probing owner accepted started) n = suc started ∷ owner ∷ n ∷ accepted ∷ []
 
--- 65
+-- from `head-probe-hashes` on
 unfoldable pub planned-words : List Hash → List ℕ
-planned-words hs = pad 32 0 (hashes-words hs)
+planned-words hs = pad planned-size 0 (hashes-words hs)
 
 -- the value of the format word
 abbrev pub format : ℕ
 format = 1
 
--- 0: format, count, last clock, total, high waters, mean, frontier
+-- from `head-format` on: format, count, last clock, total, high waters, mean, frontier
 unfoldable pub counts-words : Window → List ℕ
 counts-words w =
     format ∷ length (w .queue .pending) ∷ w .clock ∷ w .queue .total ∷ w .high .blocks ∷ w .high .bytes ∷ w .mean ∷ w .frontier ∷ []
 
--- 20: fan-out, pace, preferred and attempted
+-- from `head-fanout-eligible` on: fan-out, pace, preferred and attempted
 unfoldable pub small-words : Window → List ℕ
 small-words w =
     w .fanout .eligible ∷ flag-word (w .fanout .engaged) ∷ w .pace .mean ∷ w .pace .advance ∷ w .pace .wait
     ∷ source-word (w .races .preferred) ∷ source-word (w .races .attempted) ∷ []
 
--- the words from 97 on are kept 0, the first six of them for a chain tip
+-- the words from `head-kept` on are kept 0, the first six of them for a chain tip
 unfoldable pub head-words : Window → List ℕ
 head-words w =
     counts-words w ++ (settings-words (w .settings) ++ (small-words w
     ++ (stall-words (w .watch .stall) ++ (stuck-words (w .watch .stuck) ++ (cold-words (w .races .cold)
     ++ (hedged-words (w .races .hedged) ++ (observation-words (w .watch .observation)
-    ++ (probe-words (w .races .probe) (length (w .races .planned)) ++ (planned-words (w .races .planned) ++ replicate 415 0)))))))))
+    ++ (probe-words (w .races .probe) (length (w .races .planned)) ++ (planned-words (w .races .planned) ++ replicate kept-size 0)))))))))
 
 unfoldable pub table : Window → Table
 table w = record {
-  entries = pad 256 blank (w .queue .pending);
-  spare = replicate 256 0;
+  entries = pad places blank (w .queue .pending);
+  spare = replicate places 0;
   starts = w .queue .starts;
   bodies = w .queue .bodies;
   keys = w .keys;
@@ -206,22 +207,22 @@ hash-at k t = hash (word k t) (word (k + 1) t) (word (k + 2) t) (word (k + 3) t)
 
 -- the entries up to the count
 unfoldable pub live : Table → List Entry
-live t = take (word 1 t) (t .entries)
+live t = take (word head-count t) (t .entries)
 
 unfoldable pub settings-of : Table → Settings
 settings-of t = record {
-  «max_pending_blocks» = word 8 t;
-  «max_pending_bytes» = word 9 t;
-  «max_received_blocks» = word 10 t;
-  «max_peer_inflight» = word 11 t;
-  «fanout_peer_inflight» = word 12 t;
-  «min_peers_for_fanout» = word 13 t;
-  «getdata_batch_limit» = word 14 t;
-  «block_spacing» = word 15 t;
-  «received_timeout» = word 16 t;
-  «stall_timeout_initial» = word 17 t;
-  «stall_timeout_max» = word 18 t;
-  «staller_cooldown» = word 19 t;
+  «max_pending_blocks» = word head-max-pending-blocks t;
+  «max_pending_bytes» = word head-max-pending-bytes t;
+  «max_received_blocks» = word head-max-received-blocks t;
+  «max_peer_inflight» = word head-max-peer-inflight t;
+  «fanout_peer_inflight» = word head-fanout-peer-inflight t;
+  «min_peers_for_fanout» = word head-min-peers-for-fanout t;
+  «getdata_batch_limit» = word head-getdata-batch-limit t;
+  «block_spacing» = word head-block-spacing t;
+  «received_timeout» = word head-received-timeout t;
+  «stall_timeout_initial» = word head-stall-timeout-initial t;
+  «stall_timeout_max» = word head-stall-timeout-max t;
+  «staller_cooldown» = word head-staller-cooldown t;
 }
 
 abbrev pub source-of : ℕ → Source
@@ -252,13 +253,13 @@ probe-of (suc started) owner accepted = Probing owner accepted started
 
 unfoldable pub read : Table → Window
 read t =
-    window (settings-of t) (t .keys) (word 2 t) (word 6 t) (word 7 t) (record { blocks = word 4 t; bytes = word 5 t })
-    (queue (word 3 t) (live t) (t .starts) (t .bodies)) (t .cooling) (record { eligible = word 20 t; engaged = eqb (word 21 t) 1 })
-    (pace (word 22 t) (word 23 t) (word 24 t))
-    (races (cold-of (word 39 t) (word 40 t) (word 41 t) (hash-at 42 t)) (take (word 46 t) (hashes-in (words-at 47 8 t))) (source-of (word 25 t))
-    (probe-of (word 61 t) (word 62 t) (word 64 t)) (take (word 63 t) (hashes-in (words-at 65 32 t))) (t .racers) (source-of (word 26 t)))
-    (watch (stall-of (word 27 t) (word 28 t) (hash-at 29 t)) (stuck-of (word 33 t) (word 34 t) (hash-at 35 t))
-    (observation-of (word 55 t) (word 56 t) (hash-at 57 t)))
+    window (settings-of t) (t .keys) (word head-last-clock t) (word head-mean t) (word head-frontier t) (record { blocks = word head-high-blocks t; bytes = word head-high-bytes t })
+    (queue (word head-total t) (live t) (t .starts) (t .bodies)) (t .cooling) (record { eligible = word head-fanout-eligible t; engaged = eqb (word head-fanout-engaged t) 1 })
+    (pace (word head-front-mean t) (word head-front-advance t) (word head-stall-timeout t))
+    (races (cold-of (word head-cold t) (word head-cold-owner t) (word head-cold-other t) (hash-at head-cold-hash t)) (take (word head-hedged t) (hashes-in (words-at head-hedged-hashes hedged-size t))) (source-of (word head-preferred t))
+    (probe-of (word head-probe t) (word head-probe-owner t) (word head-probe-accepted t)) (take (word head-probe-count t) (hashes-in (words-at head-probe-hashes planned-size t))) (t .racers) (source-of (word head-attempted t)))
+    (watch (stall-of (word head-stall t) (word head-stall-owner t) (hash-at head-stall-hash t)) (stuck-of (word head-stuck t) (word head-stuck-height t) (hash-at head-stuck-hash t))
+    (observation-of (word head-observation t) (word head-observation-owner t) (hash-at head-observation-hash t)))
 
 -- ---- which tables are a window
 
@@ -276,63 +277,63 @@ settings-ok b =
 -- format, count, last clock, mean, frontier; high waters are no lower
 unfoldable pub counts-ok : Table → Bool
 counts-ok t =
-    every (eqb (word 0 t) format ∷ leb (word 1 t) max-pending ∷ leb (word 2 t) max-clock ∷ leb (word 1 t) (word 4 t) ∷ leb (word 3 t) (word 5 t)
-    ∷ leb min-estimate (word 6 t) ∷ leb (word 6 t) max-estimate ∷ leb (word 7 t) max-height ∷ [])
+    every (eqb (word head-format t) format ∷ leb (word head-count t) max-pending ∷ leb (word head-last-clock t) max-clock ∷ leb (word head-count t) (word head-high-blocks t) ∷ leb (word head-total t) (word head-high-bytes t)
+    ∷ leb min-estimate (word head-mean t) ∷ leb (word head-mean t) max-estimate ∷ leb (word head-frontier t) max-height ∷ [])
 
 -- engaged is a flag; the pace's ranges; preferred and attempted are seats
 unfoldable pub small-ok : Table → Bool
 small-ok t =
-    every (leb (word 21 t) 1 ∷ leb (word 22 t) (suc max-front-mean) ∷ leb (word 23 t) (suc (word 2 t)) ∷ leb (word 24 t) max-duration
-    ∷ leb (word 25 t) (suc max-seat) ∷ leb (word 26 t) (suc max-seat) ∷ [])
+    every (leb (word head-fanout-engaged t) 1 ∷ leb (word head-front-mean t) (suc max-front-mean) ∷ leb (word head-front-advance t) (suc (word head-last-clock t)) ∷ leb (word head-stall-timeout t) max-duration
+    ∷ leb (word head-preferred t) (suc max-seat) ∷ leb (word head-attempted t) (suc max-seat) ∷ [])
 
 -- a group that is not there is 0 throughout
 unfoldable pub zeros : ℕ → ℕ → Table → Bool
 zeros k n t = all is-0 (words-at k n t)
 
--- a stored time, that is there
+-- a stored time is none or at most the last clock
 abbrev pub time-ok : ℕ → Table → Bool
-time-ok s t = leb s (suc (word 2 t))
+time-ok s t = leb s (suc (word head-last-clock t))
 
 unfoldable pub stall-ok : Table → Bool
-stall-ok t = cond (is-0 (word 27 t)) (zeros 27 6 t) (every (time-ok (word 27 t) t ∷ leb (word 28 t) max-seat ∷ []))
+stall-ok t = cond (is-0 (word head-stall t)) (zeros head-stall stall-size t) (every (time-ok (word head-stall t) t ∷ leb (word head-stall-owner t) max-seat ∷ []))
 
 unfoldable pub stuck-ok : Table → Bool
-stuck-ok t = cond (is-0 (word 33 t)) (zeros 33 6 t) (every (time-ok (word 33 t) t ∷ leb (word 34 t) max-height ∷ []))
+stuck-ok t = cond (is-0 (word head-stuck t)) (zeros head-stuck stuck-size t) (every (time-ok (word head-stuck t) t ∷ leb (word head-stuck-height t) max-height ∷ []))
 
 -- by its first word: none, waiting since, racing with
 abbrev pub cold-by : ℕ → Table → Bool
-cold-by zero t = zeros 39 7 t
-cold-by (suc zero) t = every (leb (word 40 t) max-seat ∷ ltb 0 (word 41 t) ∷ time-ok (word 41 t) t ∷ [])
-cold-by (suc (suc zero)) t = every (leb (word 40 t) max-seat ∷ leb (word 41 t) max-seat ∷ [])
+cold-by zero t = zeros head-cold cold-size t
+cold-by (suc zero) t = every (leb (word head-cold-owner t) max-seat ∷ ltb 0 (word head-cold-other t) ∷ time-ok (word head-cold-other t) t ∷ [])
+cold-by (suc (suc zero)) t = every (leb (word head-cold-owner t) max-seat ∷ leb (word head-cold-other t) max-seat ∷ [])
 cold-by (suc (suc (suc n))) t = false
 
 unfoldable pub cold-ok : Table → Bool
-cold-ok t = cold-by (word 39 t) t
+cold-ok t = cold-by (word head-cold t) t
 
 -- at most two, and 0 after them
 unfoldable pub hedged-ok : Table → Bool
-hedged-ok t = every (leb (word 46 t) 2 ∷ all is-0 (drop (4 * word 46 t) (words-at 47 8 t)) ∷ [])
+hedged-ok t = every (leb (word head-hedged t) hedges ∷ all is-0 (drop (4 * word head-hedged t) (words-at head-hedged-hashes hedged-size t)) ∷ [])
 
 abbrev pub observation-by : ℕ → Table → Bool
-observation-by zero t = zeros 55 6 t
-observation-by (suc zero) t = leb (word 56 t) max-seat
-observation-by (suc (suc zero)) t = leb (word 56 t) max-seat
+observation-by zero t = zeros head-observation observation-size t
+observation-by (suc zero) t = leb (word head-observation-owner t) max-seat
+observation-by (suc (suc zero)) t = leb (word head-observation-owner t) max-seat
 observation-by (suc (suc (suc n))) t = false
 
 unfoldable pub observation-ok : Table → Bool
-observation-ok t = observation-by (word 55 t) t
+observation-ok t = observation-by (word head-observation t) t
 
 -- at most eight hashes, and 0 after them; without a probe there are no racers
 unfoldable pub probe-ok : Table → Bool
 probe-ok t =
-    cond (is-0 (word 61 t)) (every (zeros 61 36 t ∷ all is-0 (t .racers) ∷ []))
-    (every (time-ok (word 61 t) t ∷ leb (word 62 t) max-seat ∷ leb (word 63 t) 8 ∷ leb (word 64 t) 255
-    ∷ all is-0 (drop (4 * word 63 t) (words-at 65 32 t)) ∷ []))
+    cond (is-0 (word head-probe t)) (every (zeros head-probe probe-size t ∷ all is-0 (t .racers) ∷ []))
+    (every (time-ok (word head-probe t) t ∷ leb (word head-probe-owner t) max-seat ∷ leb (word head-probe-count t) probed ∷ leb (word head-probe-accepted t) max-progress
+    ∷ all is-0 (drop (4 * word head-probe-count t) (words-at head-probe-hashes planned-size t)) ∷ []))
 
 unfoldable pub head-ok : Table → Bool
 head-ok t =
     every (counts-ok t ∷ settings-ok (settings-of t) ∷ small-ok t ∷ stall-ok t ∷ stuck-ok t ∷ cold-ok t ∷ hedged-ok t ∷ observation-ok t
-    ∷ probe-ok t ∷ zeros 97 415 t ∷ [])
+    ∷ probe-ok t ∷ zeros head-kept kept-size t ∷ [])
 
 -- a place that is not live
 unfoldable pub is-blank : Entry → Bool
@@ -365,12 +366,12 @@ starts-ok c l i (s ∷ ss) = start-ok c (oldest i l) s && starts-ok c l (suc i) 
 
 unfoldable pub tables-ok : Table → Bool
 tables-ok t =
-    every (starts-ok (word 2 t) (live t) 0 (t .starts) ∷ all (λ s. time-ok s t) (t .bodies) ∷ all (λ k. leb k max-seat) (t .keys)
-    ∷ all (λ s. time-ok s t) (t .cooling) ∷ all (λ r. leb r 256) (t .racers) ∷ [])
+    every (starts-ok (word head-last-clock t) (live t) 0 (t .starts) ∷ all (λ s. time-ok s t) (t .bodies) ∷ all (λ k. leb k max-seat) (t .keys)
+    ∷ all (λ s. time-ok s t) (t .cooling) ∷ all (λ r. leb r (suc max-progress)) (t .racers) ∷ [])
 
 unfoldable pub records-ok : Table → Bool
 records-ok t =
-    every (all is-blank (drop (word 1 t) (t .entries)) ∷ all (entry-ok (word 2 t)) (live t) ∷ rising (live t) ∷ eqb (word 3 t) (sum (live t)) ∷ [])
+    every (all is-blank (drop (word head-count t) (t .entries)) ∷ all (entry-ok (word head-last-clock t)) (live t) ∷ rising (live t) ∷ eqb (word head-total t) (sum (live t)) ∷ [])
 
 -- 01: words count as a window when ..
 unfoldable pub valid : Table → Bool

@@ -1,15 +1,15 @@
 -- 01, module 7: the ways in which entries are let go. Definitions only.
 -- Three ways, as in the Rust: `remove-pending` takes one entry and resets its owner's start; the sweep takes all out and then resets once for
 -- each; `retain-peer-assignments` drops whole seats and resets nothing.
-use Prim.Native.Nat.{ℕ, zero, suc, _+_, _-_}
-use mathlib.Core.Bool.{Bool, true, false, cond, not, _&&_, _||_}
-use mathlib.Core.List.{List, [], _∷_, _++_}
+use Prim.Native.Nat.{ℕ, zero, suc, _-_}
+use mathlib.Core.Bool.{Bool, cond, not, _&&_, _||_}
+use mathlib.Core.List.{List, [], _∷_}
 use lib.ListN.{length, getD}
 use lib.Dec.{eqb, ltb, leb}
-use Rattle.model.specs.Numbers.{lesser, present, age}
+use Rattle.model.specs.Numbers.{lesser, present}
 use Rattle.model.specs.Lists.{select, any, count}
 use Rattle.model.specs.Hash.{same}
-use Rattle.model.specs.Window.{Window, Queue, queue, Step, stay, and-then, after, with-queue, with-frontier, with-observation, with-cold, with-preferred, with-attempted, with-probe, without-probe, no-seats}
+use Rattle.model.specs.Window.{Window, Queue, queue, Step, stay, and-then, after, with-queue, with-frontier, with-observation, with-cold, with-preferred, with-attempted, with-probe, without-probe}
 use Rattle.model.specs.Records.{remove, found, sum}
 use Rattle.model.specs.Seats.{reset-owner-queue-start, keep-seats}
 use Rattle.model.specs.Time.{expired, effective-owner-timeout, owner-download-expired, active}
@@ -57,7 +57,7 @@ abbrev pub lower-to : Height → Window → Window
 lower-to Unknown w = w
 lower-to (Known n) w = with-frontier (lesser (w .frontier) n) w
 
--- `requeue_for_retry`
+-- `requeue_for_retry`: the frontier falls to the lesser of the entry's height and the named one, as far as they are there
 unfoldable pub requeue-for-retry : Hash → Height → ℕ → Window → Step
 requeue-for-retry h named now w = after (remove-pending h 3 now w) (lower-to named)
 

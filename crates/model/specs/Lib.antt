@@ -1,5 +1,6 @@
 pub mod Lists
 pub mod Numbers
+pub mod Places
 pub mod Hash
 pub mod Window
 pub mod Records

@@ -1,7 +1,7 @@
 -- Numbers: limits, lesser and greater, and times that may be missing. Definitions only.
-use Prim.Native.Nat.{ℕ, zero, suc, _+_, _-_, _/_}
-use mathlib.Core.Bool.{Bool, true, false, cond, not, _&&_}
-use lib.Dec.{eqb, ltb, leb}
+use Prim.Native.Nat.{ℕ, suc, _+_, _-_, _/_}
+use mathlib.Core.Bool.{Bool, cond, not, _&&_}
+use lib.Dec.{eqb, leb}
 
 unfoldable pub lesser : ℕ → ℕ → ℕ
 lesser a b = cond (leb a b) a b
@@ -21,7 +21,7 @@ max-clock = 4611686018427387904
 unfoldable pub clock-ok : ℕ → ℕ → Bool
 clock-ok last c = leb c max-clock && leb last c
 
--- the moment that an accepted clock stands for, by the last accepted one
+-- the moment that an accepted clock stands for: the clock itself, whatever the last accepted one is
 unfoldable pub read-clock : ℕ → ℕ → ℕ
 read-clock last c = c
 
@@ -65,6 +65,10 @@ max-seat = 255
 -- the greatest front mean in ms that clocks up to 2^62 can give: 2^62 / 10^6
 abbrev pub max-front-mean : ℕ
 max-front-mean = 4611686018427
+
+-- a racer's progress and what a probe accepted are bytes
+abbrev pub max-progress : ℕ
+max-progress = 255
 
 -- A time that may be missing is 0 where it is, and t + 1 for the time t.
 unfoldable pub present : ℕ → Bool

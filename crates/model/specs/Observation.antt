@@ -1,7 +1,6 @@
 -- 01, module 10: what a look at a blocked window comes to. Definitions only.
-use Prim.Native.Nat.{ℕ, zero, suc, _+_, _-_, _*_, _/_}
-use mathlib.Core.Bool.{Bool, true, false, cond, not, _&&_, _||_}
-use mathlib.Core.List.{List, [], _∷_}
+use Prim.Native.Nat.{ℕ, _-_, _*_, _/_}
+use mathlib.Core.Bool.{Bool, false, cond, _&&_}
 use lib.Dec.{eqb, ltb, leb}
 use Rattle.model.specs.Lists.{select}
 use Rattle.model.specs.Hash.{same}

@@ -1,6 +1,6 @@
 -- 01, module 2: the pace of the front. Definitions only.
 use Prim.Native.Nat.{ℕ, zero, suc, _+_, _-_, _*_, _/_}
-use mathlib.Core.Bool.{Bool, true, false, cond}
+use mathlib.Core.Bool.{Bool, cond}
 use mathlib.Core.List.{List}
 use lib.Dec.{ltb, leb}
 use Rattle.model.specs.Numbers.{lesser, greater, age}

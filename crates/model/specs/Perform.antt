@@ -1,6 +1,5 @@
 -- What every public call answers and leaves, on the lent words and the lent report. Definitions only.
 use Prim.Native.Nat.{ℕ, zero, suc}
-use mathlib.Core.Bool.{Bool, true, false, cond}
 use mathlib.Core.List.{List, [], _∷_, _++_}
 use lib.ListN.{length, drop}
 use Rattle.model.specs.Numbers.{read-clock}

@@ -1,9 +1,8 @@
 -- The queries, and the values of their answers. A query writes nothing. Definitions only.
 use Prim.Native.Nat.{ℕ, zero, suc}
-use mathlib.Core.Bool.{Bool, true, false, cond}
-use mathlib.Core.List.{List, [], _∷_, _++_}
+use mathlib.Core.Bool.{Bool, true, false}
+use mathlib.Core.List.{List, [], _∷_}
 use lib.ListN.{length, getD}
-use lib.Dec.{leb}
 use Rattle.model.specs.Numbers.{read-clock}
 use Rattle.model.specs.Hash.{hashes-words}
 use Rattle.model.specs.Window.{Window}
@@ -104,7 +103,7 @@ reading-values front-interval-ewma-ms w = perhaps (w .pace .mean)
 reading-values ewma-block-bytes w = w .mean ∷ []
 reading-values probe-start w = probe-values (w .races .probe)
 
--- a query's clock is read at the last accepted one
+-- a query's clock is read as that of a changing call
 abbrev pub query-values : Query → Window → List ℕ
 query-values (reads r) w = reading-values r w
 query-values (asks-request-capacity bytes n) w = flag (has-request-capacity bytes n w)

@@ -1,5 +1,5 @@
 -- 01, module 8: the prefix probe and the cold front. Definitions only.
-use Prim.Native.Nat.{ℕ, zero, suc, _+_, _-_, _*_, _/_, _%_, _^_}
+use Prim.Native.Nat.{ℕ, zero, suc, _-_, _*_, _/_, _%_, _^_}
 use mathlib.Core.Bool.{Bool, true, false, cond, not, _&&_, _||_}
 use mathlib.Core.List.{List, [], _∷_, _++_}
 use lib.ListN.{length, getD, set}
@@ -7,7 +7,7 @@ use lib.Dec.{eqb, ltb, leb}
 use lib.Bits.{bitOr}
 use lib.Count.{ones}
 use Rattle.model.specs.Numbers.{lesser, present, next-height}
-use Rattle.model.specs.Lists.{any, all}
+use Rattle.model.specs.Lists.{any}
 use Rattle.model.specs.Hash.{same, same-hashes, hashes-in}
 use Rattle.model.specs.Window.{Window, Step, stay, after, with-cold, with-hedged, with-preferred, with-probe, with-attempted, without-probe, with-observation, no-seats}
 use Rattle.model.specs.Records.{lowest, at-height}

@@ -1,8 +1,8 @@
 -- The ten reasons for which an entry is let go, and the fixed table that says which lower the frontier. Definitions only.
 --   1 delivered · 2 owner's rejection · 3 retry · 4 release · 5 retired · 6 owner's time out · 7 passed over · 8 seat lost
 --   9 prefix race lost · 10 hedge lost
-use Prim.Native.Nat.{ℕ, zero, suc}
-use mathlib.Core.Bool.{Bool, true, false, cond, not, _||_}
+use Prim.Native.Nat.{ℕ}
+use mathlib.Core.Bool.{Bool, cond, not, _||_}
 use mathlib.Core.List.{List, [], _∷_}
 use lib.ListN.{getD}
 use lib.Dec.{eqb}

@@ -1,8 +1,8 @@
 -- 01, module 3: the records, strictly rising by hash. Definitions only.
-use Prim.Native.Nat.{ℕ, zero, suc, _+_}
+use Prim.Native.Nat.{ℕ, _+_}
 use mathlib.Core.Bool.{Bool, true, false, cond}
-use mathlib.Core.List.{List, [], _∷_, _++_}
-use lib.Dec.{eqb, ltb, leb}
+use mathlib.Core.List.{List, [], _∷_}
+use lib.Dec.{eqb, leb}
 use Rattle.model.specs.Lists.{count}
 use Rattle.model.specs.Hash.{same, less}
 use Rattle.model.specs.declared.Hash.{Hash}

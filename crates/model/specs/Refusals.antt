@@ -1,10 +1,11 @@
 -- Every public call with its arguments, what it checks, and the refusals 1 to 9. Definitions only.
-use Prim.Native.Nat.{ℕ, zero, suc, _+_}
+use Prim.Native.Nat.{ℕ, _+_}
 use mathlib.Core.Bool.{Bool, true, false, cond, not, _&&_}
 use mathlib.Core.List.{List, [], _∷_}
 use lib.ListN.{length}
-use lib.Dec.{eqb, ltb, leb}
-use Rattle.model.specs.Numbers.{max-clock, max-pending, max-seat, max-body, clock-ok, read-clock}
+use lib.Dec.{eqb, leb}
+use Rattle.model.specs.Places.{seats, word-count}
+use Rattle.model.specs.Numbers.{max-clock, max-pending, max-seat, max-body, clock-ok}
 use Rattle.model.specs.Lists.{all, any, every}
 use Rattle.model.specs.Hash.{same}
 use Rattle.model.specs.Window.{Window}
@@ -95,11 +96,11 @@ source-ok (From s) = seat-ok s
 
 -- 6: 256 keys
 unfoldable pub keys-ok : List ℕ → Bool
-keys-ok keys = every (eqb (length keys) 256 ∷ all seat-ok keys ∷ [])
+keys-ok keys = every (eqb (length keys) seats ∷ all seat-ok keys ∷ [])
 
 -- 6: at most 256 alternates
 unfoldable pub alternates-ok : List ℕ → Bool
-alternates-ok alternates = every (leb (length alternates) 256 ∷ all seat-ok alternates ∷ [])
+alternates-ok alternates = every (leb (length alternates) seats ∷ all seat-ok alternates ∷ [])
 
 -- 7: a hash is pending already or listed twice
 unfoldable pub listed-once : List Ask → Bool
@@ -128,7 +129,7 @@ checks (expires c) = checking true (at c) true nothing
 checks (requeues c h named) = checking true (at c) true nothing
 checks (releases c h) = checking true (at c) true nothing
 checks (retires c height) = checking true (at c) true nothing
-checks (retains flags) = checking true timeless (eqb (length flags) 256) nothing
+checks (retains flags) = checking true timeless (eqb (length flags) seats) nothing
 checks (marks-unresponsive c source) = checking false (at c) (seat-ok source) nothing
 checks (confirms-probe c owner given alternates) = checking false (at c) (every (seat-ok owner ∷ alternates-ok alternates ∷ [])) nothing
 checks (confirms-hedge owner alternate h) = checking false timeless (every (seat-ok owner ∷ seat-ok alternate ∷ [])) nothing
@@ -166,14 +167,14 @@ moment-ok (at c) last = clock-ok last c
 
 -- 3: a report under 256 records, for a call that lets go on some window
 unfoldable pub report-ok : Bool → ℕ → Bool
-report-ok lets-go room = cond lets-go (leb 256 room) true
+report-ok lets-go room = cond lets-go (leb max-pending room) true
 
 -- of a window: 3, 4, 6, and 7 to 9; `room` is the report's length
 unfoldable pub refusal-at : Checks → Window → ℕ → ℕ
 refusal-at k w room = test 3 (report-ok (k .lets-go) room) (test 4 (moment-ok (k .moment) (w .clock)) (test 6 (k .peers) (k .content w)))
 
 abbrev pub is-long : List ℕ → Bool
-is-long ws = eqb (length ws) 4096
+is-long ws = eqb (length ws) word-count
 
 unfoldable pub window-refusal : Checks → List ℕ → ℕ → ℕ
 window-refusal k ws room = test 1 (is-long ws) (test 2 (is-window ws) (refusal-at k (window-of ws) room))

@@ -1,9 +1,8 @@
 -- What each case of an answer that the code returns says: 01's number and values. Definitions only.
-use Prim.Native.Nat.{ℕ, zero, suc}
+use Prim.Native.Nat.{ℕ}
 use mathlib.Core.List.{List, [], _∷_}
 use Rattle.model.specs.Hash.{hash-words}
 use Rattle.model.specs.Perform.{Answer, refused, says}
-use Rattle.model.specs.declared.Hash.{Hash}
 use Rattle.model.specs.declared.Accepted.{Accepted}
 use Rattle.model.specs.declared.Accepted.the-variants as accepted
 use Rattle.model.specs.declared.LetGo.{LetGo}

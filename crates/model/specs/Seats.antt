@@ -1,9 +1,9 @@
 -- 01, module 4: start times and last body times by seat. Definitions only.
 use Prim.Native.Nat.{ℕ, zero, suc}
-use mathlib.Core.Bool.{Bool, true, false, cond}
+use mathlib.Core.Bool.{Bool, cond}
 use mathlib.Core.List.{List, [], _∷_}
 use lib.ListN.{getD, set}
-use lib.Dec.{eqb, ltb, leb}
+use lib.Dec.{eqb, ltb}
 use Rattle.model.specs.Numbers.{lesser, greater, present}
 use Rattle.model.specs.Lists.{count}
 use Rattle.model.specs.Window.{Queue, queue}

@@ -1,9 +1,9 @@
 -- The window: the state that every definition works on, the Rust's `DownloadWindow` without what 01 leaves out. Definitions only.
 -- Seats, keys and racers are lists of 256 numbers; a missing time is 0 there and a time t is t + 1.
-use Prim.Native.Nat.{ℕ, zero, suc}
-use mathlib.Core.Bool.{Bool, true, false}
-use mathlib.Core.List.{List, [], _∷_, _++_}
+use Prim.Native.Nat.{ℕ}
+use mathlib.Core.List.{List, [], _++_}
 use lib.ListN.{replicate}
+use Rattle.model.specs.Places.{seats}
 use Rattle.model.specs.declared.Hash.{Hash}
 use Rattle.model.specs.declared.Entry.{Entry}
 use Rattle.model.specs.declared.Release.{Release}
@@ -11,17 +11,12 @@ use Rattle.model.specs.declared.Settings.{Settings}
 use Rattle.model.specs.declared.Pace.{Pace}
 use Rattle.model.specs.declared.Fanout.{Fanout}
 use Rattle.model.specs.declared.Source.{Source}
-use Rattle.model.specs.declared.Source.the-variants.{Missing, From}
 use Rattle.model.specs.declared.Stall.{Stall}
-use Rattle.model.specs.declared.Stall.the-variants.{Calm}
 use Rattle.model.specs.declared.Stuck.{Stuck}
-use Rattle.model.specs.declared.Stuck.the-variants.{Moving}
 use Rattle.model.specs.declared.ColdFront.{ColdFront}
-use Rattle.model.specs.declared.ColdFront.the-variants.{Idle}
 use Rattle.model.specs.declared.Probe.{Probe}
 use Rattle.model.specs.declared.Probe.the-variants.{NoProbe}
 use Rattle.model.specs.declared.Observation.{Observation}
-use Rattle.model.specs.declared.Observation.the-variants.{Unarmed}
 
 -- `pending_bytes`; `pending`, strictly rising by hash; `owner_downloading_since` and `owner_last_body_at` by seat
 pub record Queue : Type 0 where
@@ -152,7 +147,7 @@ with-observation o w = with-watch (watch (w .watch .stall) (w .watch .stuck) o) 
 
 -- 256 seats with nothing
 abbrev pub no-seats : List ℕ
-no-seats = replicate 256 0
+no-seats = replicate seats 0
 
 -- `self.prefix_probe = None`: with it go its hashes and racers
 abbrev pub without-probe : Window → Window

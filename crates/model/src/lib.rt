@@ -1,4 +1,9 @@
-// Types that code and definitions share. No code.
+// Types that code and definitions share, and the names of places, sizes and limits. No code.
+pub mod at;
+pub mod head;
+pub mod limits;
+pub mod of_release;
+pub mod sizes;
 
 // A block hash: 32 bytes as four words, the first bytes heaviest.
 #[repr(C)]

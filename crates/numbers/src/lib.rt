@@ -2,6 +2,7 @@
 ghost use mathlib.Core.Path.{_≡_};
 ghost use Prim.Native.Nat.{_-_, _≤_, _<_};
 ghost use Rattle.model.specs.Numbers.{lesser, greater, div-ceil, present, age, max-clock, max-height, next-height};
+use model::limits;
 
 // `lesser`, the Rust's `min`.
 pub fn lesser(a: u64, b: u64) -> u64
@@ -49,7 +50,7 @@ pub fn next_height(h: u64) -> u64
     requires { ⌜ h ≤ max-height ⌝ }
     ensures { λ r. ⌜ r ≡ next-height h ⌝ }
 {
-    lesser(h + 1, 4_294_967_295)
+    lesser(h + 1, limits::MAX_HEIGHT)
 }
 
 // `present`: whether a stored time is there.

@@ -8,10 +8,11 @@ ghost use Rattle.laws.specs.Whole.{Holds};
 ghost use Rattle.opening.specs.Blank.{blank-table};
 use lent_pace::Turn;
 use model::Settings;
+use model::at;
+use model::head;
+use model::limits;
 
 // The words of a new window's head that are not 0, beside clock, settings and stall wait (docs/LAYOUT.md): format, mean, frontier.
-const FORMAT: u64 = 1;
-
 const MEAN: u64 = 262_144;
 
 const FRONTIER: u64 = 1;
@@ -28,7 +29,7 @@ fn set_keys(words: &mut [u64], keys: &[u64])
     requires { ⌜ (length (now words) ≡ 4096) × (length (now keys) ≡ 256) ⌝ }
     ensures { λ _. ⌜ decode (now (words .exit)) ≡ with-keys (now (keys .entry)) (decode (now (words .entry))) ⌝ }
 {
-    column::copy_over(&mut words[2816..3072], keys);
+    column::copy_over(&mut words[at::KEYS..at::COOLING], keys);
 }
 
 // `opened`: format, clock, mean and frontier; settings, keys and the first stall wait; all else is 0, so the count of records, the total and the high
@@ -37,12 +38,12 @@ pub fn open(words: &mut [u64], clock: u64, b: Settings, keys: &[u64])
     requires { ⌜ (length (now words) ≡ 4096) × (length (now keys) ≡ 256) ⌝ }
     ensures { λ _. ⌜ Holds (opened clock b (now (keys .entry))) (now (words .exit)) ⌝ }
 {
-    let counts = [FORMAT, 0, clock, 0, 0, 0, MEAN, FRONTIER];
+    let counts = [limits::FORMAT, 0, clock, 0, 0, 0, MEAN, FRONTIER];
     let old = layout::load_pace(words);
     let p = lent_pace::changed(Turn::Opening, old, b, clock);
     clear(words);
     set_keys(words, keys);
-    layout::store_at(words, 0, &counts);
+    layout::store_at(words, head::FORMAT, &counts);
     layout::store_settings(words, b);
     layout::store_pace(words, p);
 }

@@ -10,12 +10,17 @@ use model::Settings;
 // EWMA_MIN_SAMPLE_MS
 const MIN_SAMPLE: u64 = 50;
 
+const NS_PER_MS: u64 = 1_000_000;
+
+// of the stall wait, what is left of it after a front
+const DECAY_PERCENT: u64 = 85;
+
 // `sample-ms`: whole ms since the stored last advance.
 fn sample_ms(now: u64, advance: u64) -> u64
     requires { ⌜ now ≤ max-clock ⌝ }
     ensures { λ r. ⌜ r ≡ sample-ms now advance ⌝ }
 {
-    numbers::age(now, advance) / 1_000_000
+    numbers::age(now, advance) / NS_PER_MS
 }
 
 // `nearer`: a quarter of the difference, rounded down.
@@ -61,7 +66,7 @@ fn twice_ns(mean: u64) -> u64
     if mean == 0 {
         return 0;
     }
-    (mean - 1) * 2 * 1_000_000
+    (mean - 1) * 2 * NS_PER_MS
 }
 
 // `decay-floor`
@@ -85,7 +90,7 @@ fn decayed(wait: u64, floor: u64) -> u64
     requires { ⌜ wait ≤ max-duration ⌝ }
     ensures { λ r. ⌜ r ≡ decayed wait floor ⌝ }
 {
-    numbers::greater(wait * 85 / 100, floor)
+    numbers::greater(wait * DECAY_PERCENT / 100, floor)
 }
 
 // `front-recorded`, what `record_delivery_progress` does to the pace at a front: the mean, then the wait by the new mean's floor.

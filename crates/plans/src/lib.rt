@@ -4,9 +4,11 @@ ghost use lib.ListN.{length};
 ghost use Rattle.model.specs.Layout.{decode};
 ghost use Rattle.laws.specs.Tables.{with-words};
 ghost use Rattle.plans.specs.Rows.{rows-words};
+use model::head;
+use model::sizes;
 
 // `rows-words` of eight rows.
-fn planned_list(hs: [[u64; 4]; 8]) -> [u64; 32]
+fn planned_list(hs: [[u64; 4]; 8]) -> [u64; sizes::PLANNED_WORDS]
     ensures { λ r. ⌜ r ≡ rows-words 8 hs ⌝ }
 {
     [
@@ -50,5 +52,5 @@ pub fn store_planned(words: &mut [u64], hs: [[u64; 4]; 8])
     ensures { λ _. ⌜ decode (now (words .exit)) ≡ with-words 65 (rows-words 8 hs) (decode (now (words .entry))) ⌝ }
 {
     let l = planned_list(hs);
-    layout::store_at(words, 65, &l);
+    layout::store_at(words, head::PROBE_HASHES, &l);
 }

@@ -12,7 +12,7 @@ use lib.Seq.{drop-cons, drop-length, take-suc-set, getD-set-same, getD-set-other
 use lib.Dec.{eqb, ltb, leb}
 use borrow.Author.Tests.{eq-eqb, ne-eqb, eqb-true, eqb-false, ltb-true, ltb-false, le-leb, lt-leb, leb-false}
 use Rattle.model.specs.Numbers.{max-height, next-height, lesser}
-use Rattle.model.specs.Lists.{keepBy}
+use Rattle.column.specs.Edits.{keepBy}
 use Rattle.model.specs.Layout.{blank}
 use Rattle.model.specs.Races.{insert-by-height, by-height, walk, expected-after}
 use Rattle.model.specs.declared.Hash.{Hash}

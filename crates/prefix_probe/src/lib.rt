@@ -8,11 +8,12 @@ ghost use Rattle.model.specs.Numbers.{max-height};
 ghost use Rattle.model.specs.Layout.{window-of, blank};
 ghost use Rattle.laws.specs.Whole.{Whole};
 ghost use Rattle.prefix_probe.specs.Walks.{gap, follows, Walked};
+use model::sizes;
 
 // How far the walk went: the number of entries, their places, the height expected next.
 pub struct Walk {
     pub n: usize,
-    pub places: [usize; 8],
+    pub places: [usize; sizes::PROBED],
     pub end: u64,
 }
 
@@ -66,8 +67,8 @@ pub fn walk_up(words: &[u64], limit: usize, first: u64) -> Walk
     ensures { λ r. ⌜ Walked limit first (window-of (now (words .entry)) .queue .pending) (r .n) (r .places) (r .end) ⌝ }
 {
     let count = state_queue::pending_count(words);
-    let mut marks: [u64; 256] = [0; 256];
-    let mut places: [usize; 8] = [0; 8];
+    let mut marks: [u64; sizes::PLACES] = [0; sizes::PLACES];
+    let mut places: [usize; sizes::PROBED] = [0; sizes::PROBED];
     let mut n = 0;
     let mut expected = first;
     'walk: while n <= limit {

@@ -16,12 +16,14 @@ use model::Hash;
 use model::Plan;
 use model::Probe;
 use model::Source;
+use model::limits;
+use model::sizes;
 
 // A plan's owner and walk; without a plan n is 0.
 pub struct Planning {
     pub owner: u64,
     pub n: usize,
-    pub places: [usize; 8],
+    pub places: [usize; sizes::PROBED],
     pub end: u64,
 }
 
@@ -106,7 +108,10 @@ fn plan_limit(mean: u64) -> u64
     requires { ⌜ min-estimate ≤ mean ⌝ }
     ensures { λ r. ⌜ (r ≡ plan-limit mean) × (r ≤ 8) ⌝ }
 {
-    numbers::lesser(2_097_152 / mean, 8)
+    numbers::lesser(
+        limits::PREFIX_PROBE_ESTIMATED_BYTES / mean,
+        limits::PREFIX_PROBE_BLOCK_LIMIT,
+    )
 }
 
 fn no_planning() -> Planning
@@ -115,7 +120,7 @@ fn no_planning() -> Planning
     Planning {
         owner: 0,
         n: 0,
-        places: [0; 8],
+        places: [0; sizes::PROBED],
         end: 0,
     }
 }
@@ -137,7 +142,7 @@ pub fn make_plan(words: &[u64]) -> Planning
     }
     let mean = state::get_mean(words);
     let limit = plan_limit(mean);
-    if limit < 4 {
+    if limit < limits::PREFIX_PROBE_WIN_BLOCKS {
         return no_planning();
     }
     let most = limit as usize;
@@ -157,7 +162,7 @@ pub fn prefix_probe_plan(words: &[u64]) -> Plan
     ensures { λ r. ⌜ r ≡ header (prefix-probe-plan (window-of (now (words .entry)))) ⌝ }
 {
     let p = make_plan(words);
-    if p.n < 4 {
+    if p.n < sizes::WIN_BLOCKS {
         return Plan::NoPlan;
     }
     let end = numbers::minus(p.end, 1);

@@ -23,6 +23,7 @@ use model::Hash;
 use model::Observation;
 use model::Probe;
 use model::Source;
+use model::sizes;
 
 // ---- a racer's progress
 
@@ -87,7 +88,7 @@ fn winner(words: &[u64]) -> Source
     ensures { λ r. ⌜ (r ≡ winner 0 (window-of (now (words .entry)) .races .racers)) × SoundSource r ⌝ }
 {
     let mut seat = 0;
-    while seat < 256 {
+    while seat < sizes::SEATS {
         let racer = state::racer_of(words, seat);
         if has_won(racer) {
             return Source::From(seat as u64);
@@ -110,13 +111,13 @@ fn race_flag(racer: u64, won: bool) -> u64
     1
 }
 
-fn race_flags(words: &[u64], win: usize) -> [u64; 256]
+fn race_flags(words: &[u64], win: usize) -> [u64; sizes::SEATS]
     requires { ⌜ length (now words) ≡ 4096 ⌝ }
     ensures { λ r. ⌜ Flags win (window-of (now (words .entry)) .races .racers) 256 r ⌝ }
 {
-    let mut flags = [0; 256];
+    let mut flags = [0; sizes::SEATS];
     let mut s = 0;
-    while s < 256 {
+    while s < sizes::SEATS {
         let racer = state::racer_of(words, s);
         flags[s] = race_flag(racer, s == win);
         s += 1;

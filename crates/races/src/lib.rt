@@ -14,6 +14,7 @@ ghost use Rattle.races.specs.Hedges.{resolved, Seated};
 use model::ColdFront;
 use model::Hash;
 use model::Source;
+use model::sizes;
 
 // What a delivery means to the cold front: nothing, its end, or that its owner lost to the alternate.
 pub enum Resolution {
@@ -66,7 +67,7 @@ fn hedge_lost(
         × (releases-of r (now (gone .exit)) ≡ hedge-lost owner alternate clock (window-of (now (words .entry))) .gone)
         ⌝ }
 {
-    let mut flags: [u64; 256] = [1; 256];
+    let mut flags: [u64; sizes::SEATS] = [1; sizes::SEATS];
     flags[owner] = 0;
     let preferred = Source::From(alternate);
     state_races::clear_probe(words);

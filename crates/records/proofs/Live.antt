@@ -5,7 +5,8 @@ use Prim.Native.Nat.{ℕ, zero, suc, _+_, _-_, _*_, _≤_, _<_}
 use native.Mathlib.Omega.{arith}
 use lib.ListN.{length, take, drop, replicate, length-append, length-drop, take-append-drop}
 use lib.Seq.{take-at, drop-at, length-take-le}
-use Rattle.model.specs.Lists.{removeAt, insertAt, inserted, pad}
+use Rattle.model.specs.Lists.{pad}
+use Rattle.column.specs.Edits.{removeAt, insertAt, inserted}
 use Rattle.model.specs.Layout.{blank, rows, field, decode}
 use Rattle.model.specs.declared.Entry.{Entry}
 use Rattle.column.proofs.Laws.{length-removed, length-inserted}

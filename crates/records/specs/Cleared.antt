@@ -5,7 +5,7 @@ use Prim.Native.Nat.{ℕ, zero, suc, _+_, _-_, _*_, _≤_, zero-le, suc-le-suc}
 use native.Mathlib.Nat.{le-of-suc-le-suc, not-suc-le-zero}
 use native.Mathlib.Omega.{arith}
 use lib.ListN.{length, take, drop, replicate, length-replicate}
-use Rattle.model.specs.Lists.{keepBy, keptBy}
+use Rattle.column.specs.Edits.{keepBy, keptBy}
 use Rattle.laws.specs.Rows.{mid}
 
 unfoldable pub all-marked : List ℕ

@@ -10,7 +10,7 @@ use lib.ListN.{length, getD}
 use lib.Dec.{ltb}
 use borrow.Author.Tests.{ltb-true, ltb-false, lt-ltb, le-ltb, eqb-true, eqb-false, ne-eqb}
 use Rattle.model.specs.Hash.{key, same, less}
-use Rattle.model.specs.Lists.{removeAt, insertAt}
+use Rattle.column.specs.Edits.{removeAt, insertAt}
 use Rattle.model.specs.Records.{found, remove, insert}
 use Rattle.model.specs.Layout.{blank, less-first, rising}
 use Rattle.laws.specs.Numbers.{and-left, and-right}

@@ -7,7 +7,7 @@ ghost use Prim.Native.Nat.{_-_, _<_, _≤_, suc};
 ghost use lib.ListN.{length, take, drop, getD, replicate};
 ghost use lib.Dec.{eqb};
 ghost use Rattle.model.specs.Hash.{hash, less};
-ghost use Rattle.model.specs.Lists.{removeAt, inserted};
+ghost use Rattle.column.specs.Edits.{removeAt, inserted};
 ghost use Rattle.model.specs.Records.{lowest, at-height, pending-count-for};
 ghost use Rattle.model.specs.Numbers.{lesser};
 ghost use Rattle.model.specs.Seats.{oldest};
@@ -19,6 +19,9 @@ ghost use Rattle.records.specs.Cleared.{all-marked};
 use model::Entry;
 use model::Front;
 use model::Hash;
+use model::at;
+use model::sizes;
+use model::sizes::COLUMNS;
 
 // Where a hash is among the records, or where it would go.
 pub enum Place {
@@ -32,9 +35,6 @@ pub enum Oldest {
     Since(u64),
 }
 
-// The columns; a ninth would take the words from 2048 on.
-const COLUMNS: usize = 8;
-
 // ---- one record
 
 fn hash_of(words: &[u64], i: usize) -> Hash
@@ -43,9 +43,9 @@ fn hash_of(words: &[u64], i: usize) -> Hash
 {
     Hash {
         a: words[i],
-        b: words[i + 256],
-        c: words[i + 512],
-        d: words[i + 768],
+        b: words[i + at::HASH_B],
+        c: words[i + at::HASH_C],
+        d: words[i + at::HASH_D],
     }
 }
 
@@ -57,10 +57,10 @@ pub fn entry_of(words: &[u64], i: usize) -> Entry
     let hash = hash_of(words, i);
     Entry {
         hash,
-        owner: words[i + 1024],
-        time: words[i + 1280],
-        height: words[i + 1536],
-        estimate: words[i + 1792],
+        owner: words[i + at::OWNERS],
+        time: words[i + at::TIMES],
+        height: words[i + at::HEIGHTS],
+        estimate: words[i + at::ESTIMATES],
     }
 }
 
@@ -80,8 +80,8 @@ pub fn remove(words: &mut [u64], live: usize, at: usize)
 {
     let mut k = 0;
     while k < COLUMNS {
-        let a = 256 * k;
-        let e = a + 256;
+        let a = sizes::PLACES * k;
+        let e = a + sizes::PLACES;
         remove_live(&mut words[a..e], live, at);
         k += 1;
     }
@@ -112,8 +112,8 @@ pub fn insert(words: &mut [u64], live: usize, at: usize, e: Entry)
 {
     let mut k = 0;
     while k < COLUMNS {
-        let a = 256 * k;
-        let z = a + 256;
+        let a = sizes::PLACES * k;
+        let z = a + sizes::PLACES;
         let v = field_of(e, k);
         insert_live(&mut words[a..z], live, at, v);
         k += 1;
@@ -127,8 +127,8 @@ pub fn keep(words: &mut [u64], marks: &[u64])
 {
     let mut k = 0;
     while k < COLUMNS {
-        let a = 256 * k;
-        let e = a + 256;
+        let a = sizes::PLACES * k;
+        let e = a + sizes::PLACES;
         column::keep_unmarked(&mut words[a..e], marks);
         k += 1;
     }
@@ -141,8 +141,8 @@ pub fn clear(words: &mut [u64])
 {
     let mut k = 0;
     while k < COLUMNS {
-        let a = 256 * k;
-        let e = a + 256;
+        let a = sizes::PLACES * k;
+        let e = a + sizes::PLACES;
         column::clear_from(&mut words[a..e], 0);
         k += 1;
     }
@@ -203,7 +203,7 @@ pub fn pending_count_for(words: &[u64], count: usize, owner: u64) -> u64
     let mut i = count;
     while 0 < i {
         i -= 1;
-        if words[i + 1024] == owner {
+        if words[i + at::OWNERS] == owner {
             n += 1;
         }
     }
@@ -250,12 +250,12 @@ pub fn oldest_of(words: &[u64], count: usize, owner: u64) -> Oldest
     ensures { λ r. ⌜ stored r ≡ oldest owner (take count (decode (now (words .entry)) .entries)) ⌝ }
 {
     let mut any = false;
-    let mut low = 0xFFFF_FFFF_FFFF_FFFF;
+    let mut low = u64::MAX;
     let mut i = count;
     while 0 < i {
         i -= 1;
-        let o = words[i + 1024];
-        let t = words[i + 1280];
+        let o = words[i + at::OWNERS];
+        let t = words[i + at::TIMES];
         low = low_after(o, owner, t, low);
         any = any_after(o, owner, any);
     }
@@ -268,11 +268,11 @@ fn lowest_place(words: &[u64], count: usize) -> usize
     ensures { λ r. ⌜ lowest (take count (decode (now (words .entry)) .entries)) ≡ front-at count r (decode (now (words .entry)) .entries) ⌝ }
 {
     let mut best = count;
-    let mut low = 0xFFFF_FFFF_FFFF_FFFF;
+    let mut low = u64::MAX;
     let mut i = count;
     while 0 < i {
         i -= 1;
-        let g = words[i + 1536];
+        let g = words[i + at::HEIGHTS];
         if g <= low {
             best = i;
             low = g;
@@ -301,7 +301,7 @@ pub fn at_height(words: &[u64], count: usize, height: u64) -> Front
 {
     let mut i = 0;
     while i < count {
-        if words[i + 1536] == height {
+        if words[i + at::HEIGHTS] == height {
             let e = entry_of(words, i);
             return Front::At(e);
         }
@@ -317,7 +317,7 @@ pub fn was_front(words: &[u64], count: usize, height: u64) -> bool
 {
     let mut i = 0;
     while i < count {
-        if words[i + 1536] <= height {
+        if words[i + at::HEIGHTS] <= height {
             return false;
         }
         i += 1;

@@ -6,7 +6,7 @@ use native.Mathlib.Nat.{le-of-suc-le-suc, not-suc-le-zero}
 use native.Mathlib.Omega.{arith}
 use lib.ListN.{length, getD}
 use Rattle.model.specs.Numbers.{lesser, max-clock}
-use Rattle.model.specs.Lists.{removeAt}
+use Rattle.column.specs.Edits.{removeAt}
 use Rattle.model.specs.Reasons.{lowered, release}
 use Rattle.model.specs.Records.{found, sum}
 use Rattle.model.specs.Seats.{reset-owner-queue-start}

@@ -7,13 +7,15 @@ ghost use Rattle.report_words.specs.Report.{release-at, releases-of};
 use model::Entry;
 use model::Hash;
 use model::Release;
+use model::of_release;
+use model::sizes;
 
 // `release-at`
 fn release_at(gone: &[u64], i: usize) -> Release
     requires { ⌜ 9 * i + 8 < length (now gone) ⌝ }
     ensures { λ r. ⌜ r ≡ release-at (now (gone .entry)) i ⌝ }
 {
-    let k = 9 * i;
+    let k = sizes::RELEASE_WORDS * i;
     Release {
         entry: Entry {
             hash: Hash {
@@ -22,12 +24,12 @@ fn release_at(gone: &[u64], i: usize) -> Release
                 c: gone[k + 2],
                 d: gone[k + 3],
             },
-            owner: gone[k + 4],
-            time: gone[k + 5],
-            height: gone[k + 6],
-            estimate: gone[k + 7],
+            owner: gone[k + of_release::OWNER],
+            time: gone[k + of_release::TIME],
+            height: gone[k + of_release::HEIGHT],
+            estimate: gone[k + of_release::ESTIMATE],
         },
-        reason: gone[k + 8],
+        reason: gone[k + of_release::REASON],
     }
 }
 

@@ -12,6 +12,8 @@ ghost use Rattle.laws.specs.Marks.{gone-by};
 ghost use Rattle.report_words.specs.Report.{nine, release-at, releases-of};
 use model::Entry;
 use model::Hash;
+use model::of_release;
+use model::sizes;
 
 // A window's total and frontier.
 pub struct Totals {
@@ -20,7 +22,7 @@ pub struct Totals {
 }
 
 // A release's nine words.
-pub fn nine(e: Entry, reason: u64) -> [u64; 9]
+pub fn nine(e: Entry, reason: u64) -> [u64; sizes::RELEASE_WORDS]
     ensures { λ r. ⌜ r ≡ nine e reason ⌝ }
 {
     let h = e.hash;
@@ -43,8 +45,8 @@ pub fn put_release(gone: &mut [u64], n: usize, e: Entry, reason: u64)
     ensures { λ _. ⌜ releases-of (suc n) (now (gone .exit)) ≡ releases-of n (now (gone .entry)) ++ (release e reason ∷ []) ⌝ }
 {
     let l = nine(e, reason);
-    let a = 9 * n;
-    let z = a + 9;
+    let a = sizes::RELEASE_WORDS * n;
+    let z = a + sizes::RELEASE_WORDS;
     column::copy_over(&mut gone[a..z], &l);
 }
 
@@ -86,8 +88,13 @@ pub fn totals_after(gone: &[u64], n: usize, total: u64, frontier: u64) -> Totals
     let mut t = Totals { total, frontier };
     let mut i = 0;
     while i < n {
-        let a = 9 * i;
-        t = less_one(t, gone[a + 7], gone[a + 6], gone[a + 8]);
+        let a = sizes::RELEASE_WORDS * i;
+        t = less_one(
+            t,
+            gone[a + of_release::ESTIMATE],
+            gone[a + of_release::HEIGHT],
+            gone[a + of_release::REASON],
+        );
         i += 1;
     }
     t
@@ -98,7 +105,7 @@ fn is_entry(gone: &[u64], i: usize, owner: u64, h: Hash) -> bool
     requires { ⌜ (length (now gone) ≡ 2304) × (i < 256) ⌝ }
     ensures { λ r. ⌜ r ≡ is-entry owner h (release-at (now (gone .entry)) i) ⌝ }
 {
-    let a = 9 * i;
+    let a = sizes::RELEASE_WORDS * i;
     let g = Hash {
         a: gone[a],
         b: gone[a + 1],
@@ -106,7 +113,7 @@ fn is_entry(gone: &[u64], i: usize, owner: u64, h: Hash) -> bool
         d: gone[a + 3],
     };
     let same = hash::equal(g, h);
-    same & (gone[a + 4] == owner)
+    same & (gone[a + of_release::OWNER] == owner)
 }
 
 // Whether an owner's entry of a hash is among the first `n` releases.

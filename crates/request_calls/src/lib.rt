@@ -19,6 +19,7 @@ ghost use Rattle.laws.specs.Whole.{Whole, Holds};
 ghost use Rattle.request_calls.specs.Listed.{listed, none-pending};
 use model::Hash;
 use model::Requested;
+use model::sizes;
 
 // ---- its list
 
@@ -88,7 +89,7 @@ pub fn request_refusal(words: &[u64], hashes: &[u64], heights: &[u32]) -> u64
     }
     let n = requests::asked(hashes.len(), heights.len());
     let count = state_queue::pending_count(words);
-    if n > 256 - count {
+    if n > sizes::PLACES - count {
         return 8;
     }
     0

@@ -17,8 +17,7 @@ ghost use Rattle.request_order.specs.Order.{Ordered};
 ghost use Rattle.request_order.specs.Rows.{row-at, in-order};
 ghost use Rattle.request_many.specs.Fill.{Fillable};
 use model::Entry;
-
-const COLUMNS: usize = 8;
+use model::sizes;
 
 // ---- every record once
 
@@ -61,9 +60,9 @@ fn put_row(words: &mut [u64], at: usize, e: Entry)
     ensures { λ _. ⌜ decode (now (words .exit)) ≡ with-entries (set (decode (now (words .entry)) .entries) at e) (decode (now (words .entry))) ⌝ }
 {
     let mut k = 0;
-    while k < COLUMNS {
-        let a = 256 * k;
-        let z = a + 256;
+    while k < sizes::COLUMNS {
+        let a = sizes::PLACES * k;
+        let z = a + sizes::PLACES;
         let v = field_of(e, k);
         column::store(&mut words[a..z], at, v);
         k += 1;
@@ -166,7 +165,7 @@ fn mark_many(
         ⌝ }
     ensures { λ _. ⌜ Holds (mark-requested (asks-in (now (hashes .entry)) (now (heights .entry))) owner next clock (window-of (now (words .entry)))) (now (words .exit)) ⌝ }
 {
-    let mut order: [u64; 256] = [0; 256];
+    let mut order: [u64; sizes::PLACES] = [0; sizes::PLACES];
     if request_order::find_order(&mut order, words, hashes, m, n) {
         mark_in_order(words, hashes, heights, &order, m, n, owner, next, clock);
         return;

@@ -8,7 +8,7 @@ use native.Mathlib.Numerals.{add-one}
 use native.Mathlib.Omega.{arith}
 use lib.ListN.{length, getD, drop}
 use Rattle.model.specs.Numbers.{max-estimate}
-use Rattle.model.specs.Lists.{insertAt}
+use Rattle.column.specs.Edits.{insertAt}
 use Rattle.model.specs.Hash.{key}
 use Rattle.model.specs.Records.{new-entry, insert, found, sum}
 use Rattle.model.specs.Layout.{blank, rising}

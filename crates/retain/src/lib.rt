@@ -14,13 +14,14 @@ use model::ColdFront;
 use model::Observation;
 use model::Probe;
 use model::Source;
+use model::limits;
 
 // `flagged`, of any number: none above 255 is kept.
 pub fn is_kept(flags: &[u64], seat: u64) -> bool
     requires { ⌜ length (now flags) ≡ 256 ⌝ }
     ensures { λ r. ⌜ r ≡ flagged (now (flags .entry)) seat ⌝ }
 {
-    if 255 < seat {
+    if limits::MAX_SEAT < seat {
         return false;
     }
     let s = seat as usize;

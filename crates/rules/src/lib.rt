@@ -11,6 +11,7 @@ use model::Hash;
 use model::Observation;
 use model::Probe;
 use model::Stall;
+use model::limits;
 
 // Whether a hash asked of an owner is this one, asked of this source.
 fn is_ask(x: Hash, owner: u64, h: Hash, source: u64) -> bool
@@ -84,7 +85,7 @@ pub fn next_mean(mean: u64, bytes: u64) -> u64
     requires { ⌜ (mean ≤ max-estimate) × (bytes ≤ max-body) ⌝ }
     ensures { λ r. ⌜ r ≡ next-mean mean bytes ⌝ }
 {
-    numbers::greater((mean * 7 + bytes) / 8, 80)
+    numbers::greater((mean * 7 + bytes) / 8, limits::MIN_ESTIMATE)
 }
 
 // `is-young`

@@ -13,6 +13,7 @@ ghost use Rattle.model.specs.Window.{no-seats};
 ghost use Rattle.model.specs.Layout.{decode};
 ghost use Rattle.laws.specs.Tables.{with-starts, with-bodies, with-racers, seat-reset, kept-seats};
 ghost use Rattle.records.specs.Places.{stored};
+use model::at;
 use records::Oldest;
 
 // ---- one seat
@@ -21,49 +22,49 @@ pub fn start_of(words: &[u64], seat: usize) -> u64
     requires { ⌜ (length (now words) ≡ 4096) × (seat < 256) ⌝ }
     ensures { λ r. ⌜ r ≡ getD (decode (now (words .entry)) .starts) seat 0 ⌝ }
 {
-    words[2304 + seat]
+    words[at::STARTS + seat]
 }
 
 pub fn body_of(words: &[u64], seat: usize) -> u64
     requires { ⌜ (length (now words) ≡ 4096) × (seat < 256) ⌝ }
     ensures { λ r. ⌜ r ≡ getD (decode (now (words .entry)) .bodies) seat 0 ⌝ }
 {
-    words[2560 + seat]
+    words[at::BODIES + seat]
 }
 
 pub fn key_of(words: &[u64], seat: usize) -> u64
     requires { ⌜ (length (now words) ≡ 4096) × (seat < 256) ⌝ }
     ensures { λ r. ⌜ r ≡ getD (decode (now (words .entry)) .keys) seat 0 ⌝ }
 {
-    words[2816 + seat]
+    words[at::KEYS + seat]
 }
 
 pub fn racer_of(words: &[u64], seat: usize) -> u64
     requires { ⌜ (length (now words) ≡ 4096) × (seat < 256) ⌝ }
     ensures { λ r. ⌜ r ≡ getD (decode (now (words .entry)) .racers) seat 0 ⌝ }
 {
-    words[3328 + seat]
+    words[at::RACERS + seat]
 }
 
 pub fn set_start(words: &mut [u64], seat: usize, start: u64)
     requires { ⌜ (length (now words) ≡ 4096) × (seat < 256) ⌝ }
     ensures { λ _. ⌜ decode (now (words .exit)) ≡ with-starts (set (decode (now (words .entry)) .starts) seat start) (decode (now (words .entry))) ⌝ }
 {
-    column::store(&mut words[2304..2560], seat, start);
+    column::store(&mut words[at::STARTS..at::BODIES], seat, start);
 }
 
 pub fn set_body(words: &mut [u64], seat: usize, body: u64)
     requires { ⌜ (length (now words) ≡ 4096) × (seat < 256) ⌝ }
     ensures { λ _. ⌜ decode (now (words .exit)) ≡ with-bodies (set (decode (now (words .entry)) .bodies) seat body) (decode (now (words .entry))) ⌝ }
 {
-    column::store(&mut words[2560..2816], seat, body);
+    column::store(&mut words[at::BODIES..at::KEYS], seat, body);
 }
 
 pub fn set_racer(words: &mut [u64], seat: usize, racer: u64)
     requires { ⌜ (length (now words) ≡ 4096) × (seat < 256) ⌝ }
     ensures { λ _. ⌜ decode (now (words .exit)) ≡ with-racers (set (decode (now (words .entry)) .racers) seat racer) (decode (now (words .entry))) ⌝ }
 {
-    column::store(&mut words[3328..3584], seat, racer);
+    column::store(&mut words[at::RACERS..at::HEAD], seat, racer);
 }
 
 // ---- `reset-owner-queue-start`
@@ -167,7 +168,7 @@ pub fn active_downloading_peers(words: &[u64]) -> u64
     requires { ⌜ length (now words) ≡ 4096 ⌝ }
     ensures { λ r. ⌜ r ≡ active-downloading-peers (decode (now (words .entry)) .starts) ⌝ }
 {
-    count_present(&words[2304..2560])
+    count_present(&words[at::STARTS..at::BODIES])
 }
 
 // How many racers there are.
@@ -175,7 +176,7 @@ pub fn racers_left(words: &[u64]) -> u64
     requires { ⌜ length (now words) ≡ 4096 ⌝ }
     ensures { λ r. ⌜ r ≡ count present (decode (now (words .entry)) .racers) ⌝ }
 {
-    count_present(&words[3328..3584])
+    count_present(&words[at::RACERS..at::HEAD])
 }
 
 fn kept_word(flag: u64, word: u64) -> u64
@@ -205,20 +206,20 @@ pub fn keep_seats(words: &mut [u64], flags: &[u64])
     requires { ⌜ (length (now words) ≡ 4096) × (length (now flags) ≡ 256) ⌝ }
     ensures { λ _. ⌜ decode (now (words .exit)) ≡ kept-seats (now (flags .entry)) (decode (now (words .entry))) ⌝ }
 {
-    keep_flagged(&mut words[2304..2560], flags);
-    keep_flagged(&mut words[2560..2816], flags);
+    keep_flagged(&mut words[at::STARTS..at::BODIES], flags);
+    keep_flagged(&mut words[at::BODIES..at::KEYS], flags);
 }
 
 pub fn keep_racers(words: &mut [u64], flags: &[u64])
     requires { ⌜ (length (now words) ≡ 4096) × (length (now flags) ≡ 256) ⌝ }
     ensures { λ _. ⌜ decode (now (words .exit)) ≡ with-racers (keep-seats (flagged (now (flags .entry))) 0 (decode (now (words .entry)) .racers)) (decode (now (words .entry))) ⌝ }
 {
-    keep_flagged(&mut words[3328..3584], flags);
+    keep_flagged(&mut words[at::RACERS..at::HEAD], flags);
 }
 
 pub fn clear_racers(words: &mut [u64])
     requires { ⌜ length (now words) ≡ 4096 ⌝ }
     ensures { λ _. ⌜ decode (now (words .exit)) ≡ with-racers no-seats (decode (now (words .entry))) ⌝ }
 {
-    column::clear_from(&mut words[3328..3584], 0);
+    column::clear_from(&mut words[at::RACERS..at::HEAD], 0);
 }

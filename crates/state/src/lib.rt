@@ -17,6 +17,7 @@ use model::Settings;
 use model::Source;
 use model::Stall;
 use model::Stuck;
+use model::head;
 
 // ---- the head's numbers
 
@@ -31,63 +32,63 @@ pub fn get_clock(words: &[u64]) -> u64
     requires { ⌜ length (now words) ≡ 4096 ⌝ }
     ensures { λ r. ⌜ r ≡ window-of (now (words .entry)) .clock ⌝ }
 {
-    layout::word_of(words, 2)
+    layout::word_of(words, head::LAST_CLOCK)
 }
 
 pub fn set_clock(words: &mut [u64], c: u64)
     requires { ⌜ Whole (now words) ⌝ }
     ensures { λ _. ⌜ Holds (with-clock c (window-of (now (words .entry)))) (now (words .exit)) ⌝ }
 {
-    layout::set_word(words, 2, c);
+    layout::set_word(words, head::LAST_CLOCK, c);
 }
 
 pub fn get_mean(words: &[u64]) -> u64
     requires { ⌜ length (now words) ≡ 4096 ⌝ }
     ensures { λ r. ⌜ r ≡ window-of (now (words .entry)) .mean ⌝ }
 {
-    layout::word_of(words, 6)
+    layout::word_of(words, head::MEAN)
 }
 
 pub fn set_mean(words: &mut [u64], m: u64)
     requires { ⌜ Whole (now words) ⌝ }
     ensures { λ _. ⌜ Holds (with-mean m (window-of (now (words .entry)))) (now (words .exit)) ⌝ }
 {
-    layout::set_word(words, 6, m);
+    layout::set_word(words, head::MEAN, m);
 }
 
 pub fn get_frontier(words: &[u64]) -> u64
     requires { ⌜ length (now words) ≡ 4096 ⌝ }
     ensures { λ r. ⌜ r ≡ window-of (now (words .entry)) .frontier ⌝ }
 {
-    layout::word_of(words, 7)
+    layout::word_of(words, head::FRONTIER)
 }
 
 pub fn set_frontier(words: &mut [u64], f: u64)
     requires { ⌜ Whole (now words) ⌝ }
     ensures { λ _. ⌜ Holds (with-frontier f (window-of (now (words .entry)))) (now (words .exit)) ⌝ }
 {
-    layout::set_word(words, 7, f);
+    layout::set_word(words, head::FRONTIER, f);
 }
 
 pub fn get_total(words: &[u64]) -> u64
     requires { ⌜ length (now words) ≡ 4096 ⌝ }
     ensures { λ r. ⌜ r ≡ window-of (now (words .entry)) .queue .total ⌝ }
 {
-    layout::word_of(words, 3)
+    layout::word_of(words, head::TOTAL)
 }
 
 pub fn get_high_blocks(words: &[u64]) -> u64
     requires { ⌜ length (now words) ≡ 4096 ⌝ }
     ensures { λ r. ⌜ r ≡ window-of (now (words .entry)) .high .blocks ⌝ }
 {
-    layout::word_of(words, 4)
+    layout::word_of(words, head::HIGH_BLOCKS)
 }
 
 pub fn get_high_bytes(words: &[u64]) -> u64
     requires { ⌜ length (now words) ≡ 4096 ⌝ }
     ensures { λ r. ⌜ r ≡ window-of (now (words .entry)) .high .bytes ⌝ }
 {
-    layout::word_of(words, 5)
+    layout::word_of(words, head::HIGH_BYTES)
 }
 
 // ---- fan-out and pace

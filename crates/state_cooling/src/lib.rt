@@ -6,6 +6,7 @@ ghost use Rattle.model.specs.Numbers.{max-clock, max-seat};
 ghost use Rattle.model.specs.Cooling.{key-of, mark-peer-unresponsive, peer-in-staller-cooldown};
 ghost use Rattle.model.specs.Layout.{window-of};
 ghost use Rattle.laws.specs.Whole.{Whole, Holds};
+use model::at;
 
 // `mark-peer-unresponsive`; a sound window's keys are in range
 pub fn mark_peer_unresponsive(words: &mut [u64], source: usize, clock: u64)
@@ -14,7 +15,7 @@ pub fn mark_peer_unresponsive(words: &mut [u64], source: usize, clock: u64)
 {
     let cooldown = layout::word_of(words, 19);
     let key = seats::key_of(words, source);
-    cooling::mark_unresponsive(&mut words[3072..3328], cooldown, key, clock);
+    cooling::mark_unresponsive(&mut words[at::COOLING..at::RACERS], cooldown, key, clock);
 }
 
 // `peer-in-staller-cooldown`
@@ -24,5 +25,5 @@ pub fn in_cooldown(words: &[u64], source: usize, clock: u64) -> bool
 {
     let cooldown = layout::word_of(words, 19);
     let key = seats::key_of(words, source);
-    cooling::is_cooling(&words[3072..3328], cooldown, key, clock)
+    cooling::is_cooling(&words[at::COOLING..at::RACERS], cooldown, key, clock)
 }

@@ -9,7 +9,8 @@ use lib.ListN.{length, getD, set, take, drop, replicate}
 use lib.Seq.{getD-take, drop-at}
 use lib.Dec.{eqb}
 use borrow.Author.Tests.{eqb-true}
-use Rattle.model.specs.Lists.{removeAt, insertAt, keepBy, pad}
+use Rattle.model.specs.Lists.{pad}
+use Rattle.column.specs.Edits.{removeAt, insertAt, keepBy}
 use Rattle.model.specs.Hash.{key, same}
 use Rattle.model.specs.Records.{remove}
 use Rattle.model.specs.Seats.{oldest, reset-owner-queue-start, start-reset, body-reset, start-noted, keep-seats}

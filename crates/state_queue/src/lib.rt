@@ -3,7 +3,7 @@ ghost use mathlib.Core.Path.{_≡_};
 ghost use Prim.Native.Nat.{_+_, _-_, _<_, _≤_};
 ghost use lib.ListN.{length, getD, take};
 ghost use Rattle.model.specs.Numbers.{max-clock};
-ghost use Rattle.model.specs.Lists.{removeAt, insertAt, keepBy};
+ghost use Rattle.column.specs.Edits.{removeAt, insertAt, keepBy};
 ghost use Rattle.model.specs.Records.{lowest, at-height, pending-count-for};
 ghost use Rattle.model.specs.Seats.{oldest, reset-owner-queue-start, keep-seats};
 ghost use Rattle.model.specs.Pace.{was-front};
@@ -17,6 +17,7 @@ ghost use Rattle.state_queue.specs.Steps.{entries-put};
 use model::Entry;
 use model::Front;
 use model::Hash;
+use model::head;
 use records::Oldest;
 use records::Place;
 
@@ -26,7 +27,7 @@ pub fn pending_count(words: &[u64]) -> usize
     requires { ⌜ Whole (now words) ⌝ }
     ensures { λ r. ⌜ (r ≡ length (window-of (now (words .entry)) .queue .pending)) × (r ≤ 256) ⌝ }
 {
-    layout::word_of(words, 1) as usize
+    layout::word_of(words, head::COUNT) as usize
 }
 
 pub fn entry_at(words: &[u64], i: usize) -> Entry
@@ -93,13 +94,13 @@ pub fn take_out(words: &mut [u64], at: usize)
     ensures { λ _. ⌜ Holds (entries-put (window-of (now (words .entry)) .queue .total - getD (window-of (now (words .entry)) .queue .pending) at blank .estimate) (removeAt at (window-of (now (words .entry)) .queue .pending)) (window-of (now (words .entry)))) (now (words .exit)) ⌝ }
 {
     let e = entry_at(words, at);
-    let total = layout::word_of(words, 3);
+    let total = layout::word_of(words, head::TOTAL);
     let left = total - e.estimate;
-    let n = layout::word_of(words, 1);
+    let n = layout::word_of(words, head::COUNT);
     let count = n - 1;
     records::remove(words, n as usize, at);
-    layout::set_word(words, 1, count);
-    layout::set_word(words, 3, left);
+    layout::set_word(words, head::COUNT, count);
+    layout::set_word(words, head::TOTAL, left);
 }
 
 // An entry goes in at a place. By `put-is` the queue is that of `put`, where the place is the one for its hash.
@@ -107,13 +108,13 @@ pub fn put_at(words: &mut [u64], at: usize, e: Entry)
     requires { ⌜ Whole (now words) × ((at ≤ length (window-of (now words) .queue .pending)) × ((length (window-of (now words) .queue .pending) < 256) × (window-of (now words) .queue .total + e .estimate ≤ 18446744073709551615))) ⌝ }
     ensures { λ _. ⌜ Holds (entries-put (window-of (now (words .entry)) .queue .total + e .estimate) (insertAt at e (window-of (now (words .entry)) .queue .pending)) (window-of (now (words .entry)))) (now (words .exit)) ⌝ }
 {
-    let total = layout::word_of(words, 3);
+    let total = layout::word_of(words, head::TOTAL);
     let more = total + e.estimate;
-    let n = layout::word_of(words, 1);
+    let n = layout::word_of(words, head::COUNT);
     let count = n + 1;
     records::insert(words, n as usize, at, e);
-    layout::set_word(words, 1, count);
-    layout::set_word(words, 3, more);
+    layout::set_word(words, head::COUNT, count);
+    layout::set_word(words, head::TOTAL, more);
 }
 
 // The entries whose mark is 0, which are `count`, stay. By `kept-marks` they are those that `kept` keeps. Where none stays, as where a sweep takes all,
@@ -124,13 +125,13 @@ pub fn keep_entries(words: &mut [u64], marks: &[u64], count: u64, total: u64)
 {
     if count == 0 {
         records::clear(words);
-        layout::set_word(words, 1, 0);
-        layout::set_word(words, 3, total);
+        layout::set_word(words, head::COUNT, 0);
+        layout::set_word(words, head::TOTAL, total);
         return;
     }
     records::keep(words, marks);
-    layout::set_word(words, 1, count);
-    layout::set_word(words, 3, total);
+    layout::set_word(words, head::COUNT, count);
+    layout::set_word(words, head::TOTAL, total);
 }
 
 // ---- the seats
@@ -175,5 +176,5 @@ pub fn set_high(words: &mut [u64], blocks: u64, bytes: u64)
     ensures { λ _. ⌜ Holds (with-high (record { blocks = blocks; bytes = bytes }) (window-of (now (words .entry)))) (now (words .exit)) ⌝ }
 {
     let l = [blocks, bytes];
-    layout::store_at(words, 4, &l);
+    layout::store_at(words, head::HIGH_BLOCKS, &l);
 }

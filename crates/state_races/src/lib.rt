@@ -16,6 +16,8 @@ ghost use Rattle.model.specs.declared.Hash.{Hash};
 ghost use Rattle.state_races.specs.Hedges.{pushed, Plan, Lists};
 use model::Hash;
 use model::Probe;
+use model::head;
+use model::sizes;
 
 // ---- hedged fronts
 
@@ -23,7 +25,7 @@ pub fn hedged_count(words: &[u64]) -> u64
     requires { ⌜ Whole (now words) ⌝ }
     ensures { λ r. ⌜ r ≡ length (window-of (now (words .entry)) .races .hedged) ⌝ }
 {
-    layout::word_of(words, 46)
+    layout::word_of(words, head::HEDGED)
 }
 
 // Whether a hash is among the n that the head has from word k on.
@@ -33,7 +35,7 @@ fn is_listed(words: &[u64], k: usize, n: usize, h: Hash) -> bool
 {
     let mut i = 0;
     while i < n {
-        let a = k + 4 * i;
+        let a = k + sizes::HASH_WORDS * i;
         let x = layout::hash_of(words, a);
         if hash::equal(x, h) {
             return true;
@@ -48,7 +50,7 @@ pub fn is_hedged(words: &[u64], h: Hash) -> bool
     ensures { λ r. ⌜ r ≡ any (λ x. same x h) (window-of (now (words .entry)) .races .hedged) ⌝ }
 {
     let n = hedged_count(words) as usize;
-    is_listed(words, 47, n, h)
+    is_listed(words, head::HEDGED_HASHES, n, h)
 }
 
 // The words of the hedged fronts with one more.
@@ -66,10 +68,10 @@ pub fn push_hedged(words: &mut [u64], h: Hash)
     requires { ⌜ Whole (now words) × (length (window-of (now words) .races .hedged) < 2) ⌝ }
     ensures { λ _. ⌜ Holds (with-hedged (window-of (now (words .entry)) .races .hedged ++ (h ∷ [])) (window-of (now (words .entry)))) (now (words .exit)) ⌝ }
 {
-    let n = layout::word_of(words, 46);
-    let g = layout::hash_of(words, 47);
+    let n = layout::word_of(words, head::HEDGED);
+    let g = layout::hash_of(words, head::HEDGED_HASHES);
     let l = pushed_list(n, g, h);
-    layout::store_at(words, 46, &l);
+    layout::store_at(words, head::HEDGED, &l);
 }
 
 // ---- the probe
@@ -85,14 +87,14 @@ pub fn planned_count(words: &[u64]) -> u64
     requires { ⌜ Whole (now words) ⌝ }
     ensures { λ r. ⌜ r ≡ length (window-of (now (words .entry)) .races .planned) ⌝ }
 {
-    layout::word_of(words, 63)
+    layout::word_of(words, head::PROBE_COUNT)
 }
 
 pub fn planned_hash(words: &[u64], i: usize) -> Hash
     requires { ⌜ (length (now words) ≡ 4096) × (i < length (window-of (now words) .races .planned)) ⌝ }
     ensures { λ r. ⌜ r ≡ getD (window-of (now (words .entry)) .races .planned) i (hash 0 0 0 0) ⌝ }
 {
-    let k = 65 + 4 * i;
+    let k = head::PROBE_HASHES + sizes::HASH_WORDS * i;
     layout::hash_of(words, k)
 }
 
@@ -101,7 +103,7 @@ pub fn is_planned(words: &[u64], h: Hash) -> bool
     ensures { λ r. ⌜ r ≡ any (λ x. same x h) (window-of (now (words .entry)) .races .planned) ⌝ }
 {
     let n = planned_count(words) as usize;
-    is_listed(words, 65, n, h)
+    is_listed(words, head::PROBE_HASHES, n, h)
 }
 
 // The probe's own words, its hashes and racers as they were.
@@ -109,7 +111,7 @@ pub fn set_probe(words: &mut [u64], x: Probe)
     requires { ⌜ Whole (now words) × probe-fits x ⌝ }
     ensures { λ _. ⌜ Holds (with-probe x (window-of (now (words .entry)) .races .planned) (window-of (now (words .entry)) .races .racers) (window-of (now (words .entry)))) (now (words .exit)) ⌝ }
 {
-    let n = layout::word_of(words, 63);
+    let n = layout::word_of(words, head::PROBE_COUNT);
     states::store_probe(words, x, n);
 }
 
@@ -119,7 +121,7 @@ pub fn set_plan(words: &mut [u64], x: Probe, n: u64, list: &[u64])
     ensures { λ _. ⌜ Holds (with-probe x (take n (hashes-in (now (list .entry)))) (window-of (now (words .entry)) .races .racers) (window-of (now (words .entry)))) (now (words .exit)) ⌝ }
 {
     states::store_probe(words, x, n);
-    layout::store_at(words, 65, list);
+    layout::store_at(words, head::PROBE_HASHES, list);
 }
 
 // ---- racers
@@ -158,7 +160,7 @@ pub fn clear_probe(words: &mut [u64])
     requires { ⌜ Whole (now words) ⌝ }
     ensures { λ _. ⌜ Holds (without-probe (window-of (now (words .entry)))) (now (words .exit)) ⌝ }
 {
-    let none = [0; 32];
+    let none = [0; sizes::PLANNED_WORDS];
     let p = Probe::NoProbe;
     set_plan(words, p, 0, &none);
     clear_racers(words);

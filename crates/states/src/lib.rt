@@ -11,6 +11,8 @@ use model::Observation;
 use model::Probe;
 use model::Stall;
 use model::Stuck;
+use model::head;
+use model::sizes;
 
 // ---- stall episode
 
@@ -28,14 +30,14 @@ pub fn load_stall(words: &[u64]) -> Stall
     requires { ⌜ length (now words) ≡ 4096 ⌝ }
     ensures { λ r. ⌜ r ≡ stall-of (word 27 (decode (now (words .entry)))) (word 28 (decode (now (words .entry)))) (hash-at 29 (decode (now (words .entry)))) ⌝ }
 {
-    let since = layout::word_of(words, 27);
-    let owner = layout::word_of(words, 28);
-    let h = layout::hash_of(words, 29);
+    let since = layout::word_of(words, head::STALL);
+    let owner = layout::word_of(words, head::STALL_OWNER);
+    let h = layout::hash_of(words, head::STALL_HASH);
     stall_of(since, owner, h)
 }
 
 // `stall-words`
-fn stall_list(s: Stall) -> [u64; 6]
+fn stall_list(s: Stall) -> [u64; sizes::STALL_WORDS]
     requires { ⌜ stall-fits s ⌝ }
     ensures { λ r. ⌜ r ≡ stall-words s ⌝ }
 {
@@ -50,7 +52,7 @@ pub fn store_stall(words: &mut [u64], s: Stall)
     ensures { λ _. ⌜ decode (now (words .exit)) ≡ with-words 27 (stall-words s) (decode (now (words .entry))) ⌝ }
 {
     let l = stall_list(s);
-    layout::store_at(words, 27, &l);
+    layout::store_at(words, head::STALL, &l);
 }
 
 // ---- stuck frontier
@@ -69,14 +71,14 @@ pub fn load_stuck(words: &[u64]) -> Stuck
     requires { ⌜ length (now words) ≡ 4096 ⌝ }
     ensures { λ r. ⌜ r ≡ stuck-of (word 33 (decode (now (words .entry)))) (word 34 (decode (now (words .entry)))) (hash-at 35 (decode (now (words .entry)))) ⌝ }
 {
-    let since = layout::word_of(words, 33);
-    let height = layout::word_of(words, 34);
-    let h = layout::hash_of(words, 35);
+    let since = layout::word_of(words, head::STUCK);
+    let height = layout::word_of(words, head::STUCK_HEIGHT);
+    let h = layout::hash_of(words, head::STUCK_HASH);
     stuck_of(since, height, h)
 }
 
 // `stuck-words`
-fn stuck_list(s: Stuck) -> [u64; 6]
+fn stuck_list(s: Stuck) -> [u64; sizes::STUCK_WORDS]
     requires { ⌜ stuck-fits s ⌝ }
     ensures { λ r. ⌜ r ≡ stuck-words s ⌝ }
 {
@@ -91,7 +93,7 @@ pub fn store_stuck(words: &mut [u64], s: Stuck)
     ensures { λ _. ⌜ decode (now (words .exit)) ≡ with-words 33 (stuck-words s) (decode (now (words .entry))) ⌝ }
 {
     let l = stuck_list(s);
-    layout::store_at(words, 33, &l);
+    layout::store_at(words, head::STUCK, &l);
 }
 
 // ---- cold front
@@ -116,15 +118,15 @@ pub fn load_cold(words: &[u64]) -> ColdFront
     requires { ⌜ length (now words) ≡ 4096 ⌝ }
     ensures { λ r. ⌜ r ≡ cold-of (word 39 (decode (now (words .entry)))) (word 40 (decode (now (words .entry)))) (word 41 (decode (now (words .entry)))) (hash-at 42 (decode (now (words .entry)))) ⌝ }
 {
-    let tag = layout::word_of(words, 39);
-    let owner = layout::word_of(words, 40);
-    let x = layout::word_of(words, 41);
-    let h = layout::hash_of(words, 42);
+    let tag = layout::word_of(words, head::COLD);
+    let owner = layout::word_of(words, head::COLD_OWNER);
+    let x = layout::word_of(words, head::COLD_OTHER);
+    let h = layout::hash_of(words, head::COLD_HASH);
     cold_of(tag, owner, x, h)
 }
 
 // `cold-words`
-fn cold_list(s: ColdFront) -> [u64; 7]
+fn cold_list(s: ColdFront) -> [u64; sizes::COLD_WORDS]
     requires { ⌜ cold-fits s ⌝ }
     ensures { λ r. ⌜ r ≡ cold-words s ⌝ }
 {
@@ -140,7 +142,7 @@ pub fn store_cold(words: &mut [u64], s: ColdFront)
     ensures { λ _. ⌜ decode (now (words .exit)) ≡ with-words 39 (cold-words s) (decode (now (words .entry))) ⌝ }
 {
     let l = cold_list(s);
-    layout::store_at(words, 39, &l);
+    layout::store_at(words, head::COLD, &l);
 }
 
 // ---- observation
@@ -162,14 +164,14 @@ pub fn load_observation(words: &[u64]) -> Observation
     requires { ⌜ length (now words) ≡ 4096 ⌝ }
     ensures { λ r. ⌜ r ≡ observation-of (word 55 (decode (now (words .entry)))) (word 56 (decode (now (words .entry)))) (hash-at 57 (decode (now (words .entry)))) ⌝ }
 {
-    let tag = layout::word_of(words, 55);
-    let owner = layout::word_of(words, 56);
-    let h = layout::hash_of(words, 57);
+    let tag = layout::word_of(words, head::OBSERVATION);
+    let owner = layout::word_of(words, head::OBSERVATION_OWNER);
+    let h = layout::hash_of(words, head::OBSERVATION_HASH);
     observation_of(tag, owner, h)
 }
 
 // `observation-words`
-fn observation_list(s: Observation) -> [u64; 6]
+fn observation_list(s: Observation) -> [u64; sizes::OBSERVATION_WORDS]
     ensures { λ r. ⌜ r ≡ observation-words s ⌝ }
 {
     match s {
@@ -184,7 +186,7 @@ pub fn store_observation(words: &mut [u64], s: Observation)
     ensures { λ _. ⌜ decode (now (words .exit)) ≡ with-words 55 (observation-words s) (decode (now (words .entry))) ⌝ }
 {
     let l = observation_list(s);
-    layout::store_at(words, 55, &l);
+    layout::store_at(words, head::OBSERVATION, &l);
 }
 
 // ---- probe, without its hashes
@@ -203,9 +205,9 @@ pub fn load_probe(words: &[u64]) -> Probe
     requires { ⌜ length (now words) ≡ 4096 ⌝ }
     ensures { λ r. ⌜ r ≡ probe-of (word 61 (decode (now (words .entry)))) (word 62 (decode (now (words .entry)))) (word 64 (decode (now (words .entry)))) ⌝ }
 {
-    let started = layout::word_of(words, 61);
-    let owner = layout::word_of(words, 62);
-    let accepted = layout::word_of(words, 64);
+    let started = layout::word_of(words, head::PROBE);
+    let owner = layout::word_of(words, head::PROBE_OWNER);
+    let accepted = layout::word_of(words, head::PROBE_ACCEPTED);
     probe_of(started, owner, accepted)
 }
 
@@ -226,5 +228,5 @@ pub fn store_probe(words: &mut [u64], p: Probe, n: u64)
     ensures { λ _. ⌜ decode (now (words .exit)) ≡ with-words 61 (probe-words p n) (decode (now (words .entry))) ⌝ }
 {
     let l = probe_list(p, n);
-    layout::store_at(words, 61, &l);
+    layout::store_at(words, head::PROBE, &l);
 }

@@ -13,6 +13,7 @@ ghost use Rattle.laws.specs.Whole.{Whole, Holds};
 ghost use Rattle.report_words.specs.Report.{releases-of};
 use marks::Forecast;
 use model::Observation;
+use model::sizes;
 
 // `effective-owner-timeout`, of the window's own active count.
 pub fn timeout_of(words: &[u64]) -> u64
@@ -26,7 +27,7 @@ pub fn timeout_of(words: &[u64]) -> u64
 
 // ---- the sweep
 
-fn swept_marks(words: &[u64], clock: u64) -> [u64; 256]
+fn swept_marks(words: &[u64], clock: u64) -> [u64; sizes::PLACES]
     requires { ⌜ Whole (now words) × Sound clock (window-of (now words)) ⌝ }
     ensures { λ r. ⌜ take (length (window-of (now (words .entry)) .queue .pending)) r ≡ map (sweep-reason clock (effective-owner-timeout (active (window-of (now (words .entry)))) (window-of (now (words .entry)))) (window-of (now (words .entry)))) (window-of (now (words .entry)) .queue .pending) ⌝ }
 {

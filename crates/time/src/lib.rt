@@ -34,7 +34,7 @@ pub fn expiry_limit(now: u64, timeout: u64) -> u64
     ensures { λ r. ⌜ r ≡ expiry-limit now timeout ⌝ }
 {
     if timeout == 0 {
-        return 0xFFFF_FFFF_FFFF_FFFF;
+        return u64::MAX;
     }
     numbers::minus(now + 1, timeout)
 }

@@ -19,6 +19,7 @@ use model::Plan;
 use model::Probe;
 use model::Source;
 use model::Truth;
+use model::limits;
 
 // How many blocks are pending.
 pub fn pending_len(words: &[u64]) -> Number
@@ -108,7 +109,7 @@ pub fn ewma_block_bytes(words: &[u64]) -> Number
 pub fn pending_count_for(words: &[u64], seat: u64) -> Number
     ensures { λ r. ⌜ number-says r ≡ perform (queries (asks-count-for seat)) (now (words .entry)) [] .answer ⌝ }
 {
-    let n = admission::refused_by(words, seat <= 255);
+    let n = admission::refused_by(words, seat <= limits::MAX_SEAT);
     if n != 0 {
         return Number::Refused(n);
     }
@@ -148,7 +149,7 @@ pub fn contains_pending(words: &[u64], h: Hash) -> Truth
 pub fn is_downloading(words: &[u64], seat: u64) -> Truth
     ensures { λ r. ⌜ truth-says r ≡ perform (queries (asks-downloading seat)) (now (words .entry)) [] .answer ⌝ }
 {
-    let n = admission::refused_by(words, seat <= 255);
+    let n = admission::refused_by(words, seat <= limits::MAX_SEAT);
     if n != 0 {
         return Truth::Refused(n);
     }
@@ -174,7 +175,7 @@ pub fn effective_owner_timeout(words: &[u64]) -> Number
 pub fn hedge_offered(words: &[u64], seat: u64, h: Hash) -> Truth
     ensures { λ r. ⌜ truth-says r ≡ perform (queries (asks-hedge-offered seat h)) (now (words .entry)) [] .answer ⌝ }
 {
-    let n = admission::refused_by(words, seat <= 255);
+    let n = admission::refused_by(words, seat <= limits::MAX_SEAT);
     if n != 0 {
         return Truth::Refused(n);
     }
@@ -188,7 +189,7 @@ pub fn hedge_offered(words: &[u64], seat: u64, h: Hash) -> Truth
 pub fn peer_has_expired_pending(words: &[u64], seat: u64, clock: u64) -> Truth
     ensures { λ r. ⌜ truth-says r ≡ perform (queries (asks-has-expired seat clock)) (now (words .entry)) [] .answer ⌝ }
 {
-    let n = admission::refused_by_at(words, clock, seat <= 255);
+    let n = admission::refused_by_at(words, clock, seat <= limits::MAX_SEAT);
     if n != 0 {
         return Truth::Refused(n);
     }
@@ -202,7 +203,7 @@ pub fn peer_has_expired_pending(words: &[u64], seat: u64, clock: u64) -> Truth
 pub fn peer_in_staller_cooldown(words: &[u64], seat: u64, clock: u64) -> Truth
     ensures { λ r. ⌜ truth-says r ≡ perform (queries (asks-cooldown seat clock)) (now (words .entry)) [] .answer ⌝ }
 {
-    let n = admission::refused_by_at(words, clock, seat <= 255);
+    let n = admission::refused_by_at(words, clock, seat <= limits::MAX_SEAT);
     if n != 0 {
         return Truth::Refused(n);
     }
@@ -390,7 +391,7 @@ pub fn front_interval_ewma_ms(words: &[u64]) -> Perhaps
 pub fn owner_queue_start(words: &[u64], seat: u64) -> Perhaps
     ensures { λ r. ⌜ perhaps-says r ≡ perform (queries (asks-queue-start seat)) (now (words .entry)) [] .answer ⌝ }
 {
-    let n = admission::refused_by(words, seat <= 255);
+    let n = admission::refused_by(words, seat <= limits::MAX_SEAT);
     if n != 0 {
         return Perhaps::Refused(n);
     }
@@ -407,7 +408,7 @@ pub fn compute_request_capacity(
 ) -> PerhapsPair
     ensures { λ r. ⌜ perhaps-pair-says r ≡ perform (queries (asks-compute-capacity source «byte_headroom» «count_headroom»)) (now (words .entry)) [] .answer ⌝ }
 {
-    let n = admission::refused_by(words, source <= 255);
+    let n = admission::refused_by(words, source <= limits::MAX_SEAT);
     if n != 0 {
         return PerhapsPair::Refused(n);
     }
@@ -419,7 +420,7 @@ pub fn compute_request_capacity(
 pub fn probe_offered(words: &[u64], source: u64, h: Hash) -> Truth
     ensures { λ r. ⌜ truth-says r ≡ perform (queries (asks-probe-offered source h)) (now (words .entry)) [] .answer ⌝ }
 {
-    let n = admission::refused_by(words, source <= 255);
+    let n = admission::refused_by(words, source <= limits::MAX_SEAT);
     if n != 0 {
         return Truth::Refused(n);
     }

@@ -12,7 +12,7 @@ use lib.Seq.{getD-set-other, take-set-le, take-suc-set, length-take-le}
 use lib.Dec.{eqb}
 use borrow.Author.Needs.{needs}
 use borrow.Author.Tests.{eqb-true, eqb-false}
-use Rattle.model.specs.Lists.{keepBy, keptBy}
+use Rattle.column.specs.Edits.{keepBy, keptBy}
 use Rattle.column.proofs.Laws.{keep-one, keep-none}
 use Rattle.column.proofs.keep_unmarked.Statement.{statement}
 use Rattle.column.proofs.keep_unmarked.Tie as tie

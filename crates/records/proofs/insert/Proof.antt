@@ -1,5 +1,5 @@
 -- `records::insert` meets its contract. Assumes nothing.
-use Rattle.model.specs.Lists.{inserted}
+use Rattle.column.specs.Edits.{inserted}
 use Rattle.laws.specs.Rows.{mid}
 use Rattle.laws.specs.Tables.{put-col, decode-put-in}
 use Rattle.laws.specs.Rows.{Upto, upto-start, upto-call}
