@@ -40,8 +40,7 @@
  *   A value that may be missing is `has_x` and then `x`; where `has_x` is false, `x` is not read.
  *
  * ANSWERS
- *   An answer begins with `refused`: 0, or one of the nine numbers below, and then every other field is 0. (kofudile_hashes alone has no such
- *   field: it is 0 throughout where kofudile_prefix_probe_plan is refused.) A call that answers a plain uint64_t
+ *   An answer begins with `refused`: 0, or one of the nine numbers below, and then every other field is 0. A call that answers a plain uint64_t
  *   answers that number. A refused call changes nothing: words and report are as they were. Of several causes the lowest number is answered.
  *   The comment `refused by ..` of a call lists all that it can answer.
  */
@@ -173,12 +172,8 @@ typedef struct {
    the walk reached 4,294,967,295, as in the original). */
 typedef struct {
     uint64_t refused, present, owner, count, end_height;
+    kofudile_hash hashes[8]; /* 0 after the first `count` */
 } kofudile_plan;
-
-/* The first `count` of the plan; 0 after them, and throughout without a plan. */
-typedef struct {
-    kofudile_hash hashes[8];
-} kofudile_hashes;
 
 /* ---- Opening ---- */
 
@@ -332,9 +327,8 @@ kofudile_perhaps kofudile_front_interval_ewma_ms(const uint64_t *words, size_t w
 
 /* The seat that won the last race. refused by 1, 2 */
 kofudile_perhaps kofudile_preferred_peer(const uint64_t *words, size_t words_len);
-/* A race that is worth while now, and its hashes (0 throughout where refused). refused by 1, 2 */
+/* A race that is worth while now. refused by 1, 2 */
 kofudile_plan kofudile_prefix_probe_plan(const uint64_t *words, size_t words_len);
-kofudile_hashes kofudile_prefix_probe_hashes(const uint64_t *words, size_t words_len);
 /* When the running prefix race began. refused by 1, 2 */
 kofudile_perhaps kofudile_active_prefix_probe_started_at(const uint64_t *words, size_t words_len);
 /* Whether the seat races for this hash in the prefix race; as alternate in the race for a cold front. refused by 1, 2, 6 */
@@ -350,7 +344,7 @@ static inline kofudile_number kofudile_mark_requested_of(uint64_t *words, size_t
         words, words_len, owner, &hashes->a, 4 * count, heights, count, next, byte_headroom, count_headroom, clock);
 }
 
-/* kofudile_confirm_prefix_probe of `count` hashes: those of kofudile_prefix_probe_hashes, as many as the plan's count. */
+/* kofudile_confirm_prefix_probe of `count` hashes: the plan's, as many as its count. */
 static inline uint64_t kofudile_confirm_prefix_probe_of(uint64_t *words, size_t words_len, uint64_t owner, const kofudile_hash *given, size_t count,
     const uint64_t *alternates, size_t alternates_len, uint64_t clock) {
     return kofudile_confirm_prefix_probe(words, words_len, owner, &given->a, 4 * count, alternates, alternates_len, clock);

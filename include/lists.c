@@ -26,11 +26,11 @@ int main(void) {
     HOLDS(kofudile_contains_pending(words, KOFUDILE_WORDS, hashes[4]).value == 1);
 
     kofudile_plan plan = kofudile_prefix_probe_plan(words, KOFUDILE_WORDS);
-    kofudile_hashes planned = kofudile_prefix_probe_hashes(words, KOFUDILE_WORDS);
-    HOLDS(plan.present == 1 && plan.count == 5);
-    HOLDS(kofudile_confirm_prefix_probe_of(words, KOFUDILE_WORDS, plan.owner, planned.hashes, 4, &alternate, 1, 0) == 0);
+    HOLDS(plan.refused == 0 && plan.present == 1 && plan.count == 5 && plan.hashes[4].d == hashes[4].d);
+    HOLDS(kofudile_prefix_probe_plan(words, KOFUDILE_WORDS - 1).refused == 1);
+    HOLDS(kofudile_confirm_prefix_probe_of(words, KOFUDILE_WORDS, plan.owner, plan.hashes, 4, &alternate, 1, 0) == 0);
     HOLDS(kofudile_active_prefix_probe_started_at(words, KOFUDILE_WORDS).present == 0);
-    HOLDS(kofudile_confirm_prefix_probe_of(words, KOFUDILE_WORDS, plan.owner, planned.hashes, plan.count, &alternate, 1, 0) == 0);
+    HOLDS(kofudile_confirm_prefix_probe_of(words, KOFUDILE_WORDS, plan.owner, plan.hashes, plan.count, &alternate, 1, 0) == 0);
     HOLDS(kofudile_active_prefix_probe_started_at(words, KOFUDILE_WORDS).present == 1);
 
     kofudile_received body = {0, 0, 0, 0};

@@ -169,8 +169,7 @@ impl DownloadWindow {
         if Refusal::unless(plan.refused, || plan.present)? == 0 {
             return Ok(None);
         }
-        let hashes = self.read(ffi::kofudile_prefix_probe_hashes).hashes;
-        let hashes = hashes.into_iter().take(plan.count as usize).map(Hash256::of).collect();
+        let hashes = plan.hashes.into_iter().take(plan.count as usize).map(Hash256::of).collect();
         Ok(Some(PrefixProbePlan { owner: plan.owner as Seat, hashes, end_height: plan.end_height as u32 }))
     }
 

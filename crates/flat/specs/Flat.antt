@@ -2,8 +2,9 @@
 use Prim.Native.Nat.{ℕ}
 use mathlib.Core.Bool.{Bool, true, false, cond}
 use mathlib.Core.List.{List, [], _∷_}
-use lib.ListN.{getD}
+use lib.ListN.{getD, drop, replicate}
 use lib.Dec.{eqb}
+use Rattle.model.specs.Lists.{pad}
 use Rattle.model.specs.Hash.{hash}
 use Rattle.model.specs.Perform.{Answer, refused, says}
 use Rattle.model.specs.declared.Hash.{Hash}
@@ -79,10 +80,11 @@ abbrev pub blocked-flat : Answer → FlatBlocked
 blocked-flat (refused n) = record { refused = n; decision = 0; owner = 0; height = 0; suppressed = 0; hash = hash 0 0 0 0 }
 blocked-flat (says places v) = cond (eqb (value v 0) 3) (evicts v) (cond (eqb (value v 0) 4) (hedges v) (blames v))
 
--- a plan without its hashes, which have a function of their own
+-- the words of a plan's hashes follow its three numbers; 0 after them
 abbrev pub plan-flat : Answer → FlatPlan
-plan-flat (refused n) = record { refused = n; present = 0; owner = 0; count = 0; «end_height» = 0 }
-plan-flat (says places v) = record { refused = 0; present = present v; owner = value v 0; count = value v 1; «end_height» = value v 2 }
+plan-flat (refused n) = record { refused = n; present = 0; owner = 0; count = 0; «end_height» = 0; hashes = replicate 32 0 }
+plan-flat (says places v) =
+    record { refused = 0; present = present v; owner = value v 0; count = value v 1; «end_height» = value v 2; hashes = pad 32 0 (drop 3 v) }
 
 -- ---- what may be missing, by a flag beside it
 

@@ -1,10 +1,9 @@
 // Answers as C structs. `refused` is 0, or the refusal's number, and then every other field is 0.
 ghost use mathlib.Core.Path.{_≡_};
-ghost use mathlib.Core.List.{[]};
-ghost use Rattle.model.specs.Says.{accepted-says, let-go-says, requested-says, fetch-says, received-says, rejected-says, blocked-says, truth-says, number-says, pair-says, perhaps-says, perhaps-pair-says, plan-says};
-ghost use Rattle.flat.specs.Flat.{done-flat, number-flat, pair-flat, perhaps-flat, perhaps-pair-flat, gone-flat, received-flat, rejected-flat, blocked-flat, plan-flat, source-if, height-if, sought-if};
+ghost use Rattle.model.specs.Says.{accepted-says, let-go-says, requested-says, fetch-says, received-says, rejected-says, blocked-says, truth-says, number-says, pair-says, perhaps-says, perhaps-pair-says};
+ghost use Rattle.flat.specs.Flat.{done-flat, number-flat, pair-flat, perhaps-flat, perhaps-pair-flat, gone-flat, received-flat, rejected-flat, blocked-flat, source-if, height-if, sought-if};
+ghost use Rattle.flat.specs.Plans.{plan-numbers};
 ghost use Rattle.heights.specs.Heights.{wide};
-ghost use Rattle.plans.specs.Rows.{rows-words};
 use heights::Height32;
 use model::Accepted;
 use model::Blocked;
@@ -23,6 +22,7 @@ use model::Sought;
 use model::Source;
 use model::Truth;
 use model::sizes;
+use plans::PlanAnswer;
 
 #[repr(C)]
 pub struct FlatNumber {
@@ -90,11 +90,7 @@ pub struct FlatPlan {
     pub owner: u64,
     pub count: u64,
     pub end_height: u64,
-}
-
-#[repr(C)]
-pub struct FlatHashes {
-    pub words: [u64; sizes::PLANNED_WORDS],
+    pub hashes: [u64; sizes::PLANNED_WORDS],
 }
 
 pub fn of_accepted(a: Accepted) -> u64
@@ -329,16 +325,19 @@ pub fn of_blocked(a: Blocked) -> FlatBlocked
     }
 }
 
-pub fn of_plan(a: Plan) -> FlatPlan
-    ensures { λ r. ⌜ r ≡ plan-flat (plan-says a []) ⌝ }
+pub fn of_plan(a: PlanAnswer) -> FlatPlan
+    ensures { λ r. ⌜ r ≡ plan-numbers (a .plan) (a .hashes) ⌝ }
 {
-    match a {
+    let plan = a.plan;
+    let hashes = a.hashes;
+    match plan {
         Plan::Refused(n) => FlatPlan {
             refused: n,
             present: 0,
             owner: 0,
             count: 0,
             end_height: 0,
+            hashes: hashes,
         },
         Plan::NoPlan => FlatPlan {
             refused: 0,
@@ -346,6 +345,7 @@ pub fn of_plan(a: Plan) -> FlatPlan
             owner: 0,
             count: 0,
             end_height: 0,
+            hashes: hashes,
         },
         Plan::Planned(owner, n, end) => FlatPlan {
             refused: 0,
@@ -353,57 +353,8 @@ pub fn of_plan(a: Plan) -> FlatPlan
             owner: owner,
             count: n,
             end_height: end,
+            hashes: hashes,
         },
-    }
-}
-
-// Eight hashes of four words, in a row.
-pub fn of_rows(rows: [[u64; 4]; 8]) -> FlatHashes
-    ensures { λ r. ⌜ r .words ≡ rows-words 8 rows ⌝ }
-{
-    let a = rows[0];
-    let b = rows[1];
-    let c = rows[2];
-    let d = rows[3];
-    let e = rows[4];
-    let f = rows[5];
-    let g = rows[6];
-    let h = rows[7];
-    FlatHashes {
-        words: [
-            a[0],
-            a[1],
-            a[2],
-            a[3],
-            b[0],
-            b[1],
-            b[2],
-            b[3],
-            c[0],
-            c[1],
-            c[2],
-            c[3],
-            d[0],
-            d[1],
-            d[2],
-            d[3],
-            e[0],
-            e[1],
-            e[2],
-            e[3],
-            f[0],
-            f[1],
-            f[2],
-            f[3],
-            g[0],
-            g[1],
-            g[2],
-            g[3],
-            h[0],
-            h[1],
-            h[2],
-            h[3],
-        ],
     }
 }
 

@@ -1,14 +1,21 @@
-// The planned hashes, by value, a row of four words each, written to the head.
+// The planned hashes, by value, a row of four words each: as they are answered, and written to the head.
 ghost use mathlib.Core.Path.{_≡_};
 ghost use lib.ListN.{length};
 ghost use Rattle.model.specs.Layout.{decode};
 ghost use Rattle.laws.specs.Tables.{with-words};
 ghost use Rattle.plans.specs.Rows.{rows-words};
+use model::Plan;
 use model::head;
 use model::sizes;
 
+// What `prefix_probe_plan` answers: the plan's numbers, or the refusal, and beside them the words of eight hashes, 0 after the planned ones.
+pub struct PlanAnswer {
+    pub plan: Plan,
+    pub hashes: [u64; sizes::PLANNED_WORDS],
+}
+
 // `rows-words` of eight rows.
-fn planned_list(hs: [[u64; 4]; 8]) -> [u64; sizes::PLANNED_WORDS]
+pub fn planned_list(hs: [[u64; 4]; 8]) -> [u64; sizes::PLANNED_WORDS]
     ensures { λ r. ⌜ r ≡ rows-words 8 hs ⌝ }
 {
     [

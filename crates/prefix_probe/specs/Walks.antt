@@ -19,31 +19,31 @@ use Rattle.model.specs.declared.Hash.{Hash}
 use Rattle.model.specs.declared.Entry.{Entry}
 use Rattle.laws.specs.Numbers.{both, next-height-le}
 
--- an entry that is left and lower than expected; one that is left and at the height expected
-unfoldable pub gap : ℕ → ℕ → ℕ → Bool
-gap zero height expected = ltb height expected
-gap (suc mark) height expected = false
+-- an entry that is left and lower than expected, so that the walk is past it; one that is left and at the height expected
+unfoldable pub behind : ℕ → ℕ → ℕ → Bool
+behind zero height expected = ltb height expected
+behind (suc mark) height expected = false
 
 unfoldable pub follows : ℕ → ℕ → ℕ → Bool
 follows zero height expected = eqb height expected
 follows (suc mark) height expected = false
 
 module _ (height expected : ℕ) where
-  pub gap-marked : (mark : ℕ) → (mark ≡ 0 → ⊥) → gap mark height expected ≡ false
-  unfolding gap
-  gap-marked zero n = absurd (n refl)
-  gap-marked (suc mark) n = refl
+  pub behind-marked : (mark : ℕ) → (mark ≡ 0 → ⊥) → behind mark height expected ≡ false
+  unfolding behind
+  behind-marked zero n = absurd (n refl)
+  behind-marked (suc mark) n = refl
 
   pub follows-marked : (mark : ℕ) → (mark ≡ 0 → ⊥) → follows mark height expected ≡ false
   unfolding follows
   follows-marked zero n = absurd (n refl)
   follows-marked (suc mark) n = refl
 
--- some entry is such a gap
+-- some entry is behind
 unfoldable pub lower-in : ℕ → List ℕ → List Entry → Bool
 lower-in x [] es = false
 lower-in x (m ∷ ms) [] = false
-lower-in x (m ∷ ms) (e ∷ es) = gap m (e .height) x || lower-in x ms es
+lower-in x (m ∷ ms) (e ∷ es) = behind m (e .height) x || lower-in x ms es
 
 -- the place of the first that follows; where none does, the number of entries
 unfoldable pub first-in : ℕ → List ℕ → List Entry → ℕ
@@ -112,7 +112,7 @@ never q = let z : _≡_ {A = ℕ} 0 1 = cc in absurd (omega arith)
 
 module _ (x : ℕ) where
   lower-below : (ms : List ℕ) (es : List Entry) → lower-in x ms es ≡ true → Below x (by-height (keepBy ms es))
-  unfolding lower-in by-height gap
+  unfolding lower-in by-height behind
   lower-below [] es q = never q
   lower-below (m ∷ ms) [] q = never q
   lower-below (zero ∷ ms) (e ∷ es) q = elim (both (ltb (e .height) x)) [
@@ -122,7 +122,7 @@ module _ (x : ℕ) where
   lower-below (suc m ∷ ms) (e ∷ es) q = lower-below ms es q
 
   not-lower : (ms : List ℕ) (es : List Entry) → length es ≤ length ms → lower-in x ms es ≡ false → AtLeast x (by-height (keepBy ms es))
-  unfolding lower-in by-height gap
+  unfolding lower-in by-height behind
   not-lower [] [] n q = tt
   not-lower [] (e ∷ es) n q = absurd (omega arith)
   not-lower (m ∷ ms) [] n q = tt
@@ -133,7 +133,7 @@ module _ (x : ℕ) where
   not-lower (suc m ∷ ms) (e ∷ es) n q = not-lower ms es (omega arith) q
 
   none-above : (ms : List ℕ) (es : List Entry) → length es ≤ length ms → lower-in x ms es ≡ false → first-in x ms es ≡ length es → AtLeast (suc x) (by-height (keepBy ms es))
-  unfolding lower-in first-in by-height gap follows
+  unfolding lower-in first-in by-height behind follows
   none-above [] [] n q f = tt
   none-above [] (e ∷ es) n q f = absurd (omega arith)
   none-above (m ∷ ms) [] n q f = tt
@@ -149,7 +149,7 @@ module _ (x : ℕ) where
   -- the first at the height is the next of the sorted list, and stands at it
   here-first : (ms : List ℕ) (es : List Entry) → length es ≤ length ms → lower-in x ms es ≡ false → first-in x ms es < length es
       → (getD es (first-in x ms es) blank .height ≡ x) × (by-height (keepBy ms es) ≡ getD es (first-in x ms es) blank ∷ by-height (keepBy (set ms (first-in x ms es) 1) es))
-  unfolding lower-in first-in by-height gap follows
+  unfolding lower-in first-in by-height behind follows
   here-first [] [] n q f = absurd (omega arith)
   here-first [] (e ∷ es) n q f = absurd (omega arith)
   here-first (m ∷ ms) [] n q f = absurd (omega arith)
@@ -173,7 +173,7 @@ module _ (x : ℕ) where
       lower-nil : (ms : List ℕ) → lower-in x ms [] ≡ false
       lower-nil [] = refl
       lower-nil (m ∷ ms) = refl
-  lower-drop (suc i) (m ∷ ms) (e ∷ es) q = rw (lower-drop i ms es q) (or-true (gap m (e .height) x))
+  lower-drop (suc i) (m ∷ ms) (e ∷ es) q = rw (lower-drop i ms es q) (or-true (behind m (e .height) x))
     where
       or-true : (b : Bool) → b || true ≡ true
       or-true true = refl
@@ -200,6 +200,19 @@ keep-all zero l = refl
 keep-all (suc k) [] = refl
 keep-all (suc k) (e ∷ l) = ap (λ (r : List Entry). e ∷ r) (keep-all k l)
 
+empty : (l : List Entry) → length l ≡ 0 → l ≡ []
+empty [] h = refl
+empty (e ∷ l) h = absurd (omega arith)
+
+length-sorted : (l : List Entry) → length (by-height l) ≡ length l
+unfolding insert-by-height by-height
+length-sorted [] = refl
+length-sorted (e ∷ l) = inserted (by-height l) ∙ ap suc (length-sorted l)
+  where
+    inserted : (b : List Entry) → length (insert-by-height e b) ≡ suc (length b)
+    inserted [] = refl
+    inserted (x ∷ b) = elim (both (leb (e .height) (x .height))) [ inl q ↦ rw q | inr q ↦ rw q (ap suc (inserted b)) ]
+
 walk-on : (k j x : ℕ) (e : Entry) (b r : List Entry) → k ≡ suc j → b ≡ e ∷ r → e .height ≡ x → walk k x b ≡ e .hash ∷ walk j (next-height x) r
 unfolding walk
 walk-on k j x e b r p q h = (λ i. walk (p i) x (q i)) ∙ rw (eq-eqb (e .height) x h)
@@ -210,6 +223,7 @@ pub record Walking (limit first : ℕ) (l : List Entry) (n : ℕ) (places marks 
   pub few : n ≤ limit
   pub room : length places ≡ 8
   pub marked : length marks ≡ 256
+  pub left : n + length (keepBy marks l) ≡ length l
   pub so-far : walk limit first (by-height l) ≡ hashes-at l (take n places) ++ walk (limit - n) expected (by-height (keepBy marks l))
   pub end : expected ≡ expected-after (hashes-at l (take n places)) first
   pub low : expected ≤ max-height
@@ -230,6 +244,7 @@ module _ (limit first : ℕ) (l : List Entry) where
     few = omega arith;
     room = refl;
     marked = length-replicate {A = ℕ} 256 0;
+    left = omega (arith, ap length (keep-all 256 l));
     so-far = (let z : limit ≡ limit - 0 = omega arith in λ i. walk (z i) first (by-height (sym (keep-all 256 l) i)));
     end = refl;
     low = h;
@@ -240,15 +255,20 @@ module _ (limit first : ℕ) (l : List Entry) where
     stopped : walk (limit - n) x (by-height (keepBy marks l)) ≡ [] → Walked limit first l n places x
     stopped q = record { few = w .few; room = w .room; hashes = w .so-far ∙ ap (λ (r : List Hash). hashes-at l (take n places) ++ r) q ∙ append-nil _; end = w .end; within = w .within }
 
-    pub walk-gap : (i : ℕ) → lower-in x (drop i marks) (drop i l) ≡ true → Walked limit first l n places x
-    walk-gap i q = stopped (below-walk x (limit - n) _ (lower-below x marks l (lower-drop x i marks l q)))
+    -- no entry is left; one is behind; the limit is met; none is at the height expected
+    pub walk-over : length l ≤ n → Walked limit first l n places x
+    unfolding by-height
+    walk-over h = stopped (ap (λ (r : List Entry). walk (limit - n) x (by-height r)) (empty (keepBy marks l) (omega (arith, w .left))) ∙ above-walk x (limit - n) [] tt)
+
+    pub walk-behind : (i : ℕ) → lower-in x (drop i marks) (drop i l) ≡ true → Walked limit first l n places x
+    walk-behind i q = stopped (below-walk x (limit - n) _ (lower-below x marks l (lower-drop x i marks l q)))
 
     pub walk-full : n ≡ limit → Walked limit first l n places x
     unfolding walk
     walk-full q = stopped (ap (λ (k : ℕ). walk k x (by-height (keepBy marks l))) (let z : limit - n ≡ 0 = omega arith in z))
 
-    pub walk-none : length l ≤ 256 → lower-in x marks l ≡ false → first-in x marks l ≡ length l → Walked limit first l n places x
-    walk-none m q f = stopped (above-walk x (limit - n) _ (none-above x marks l (omega (arith, w .marked)) q f))
+    pub walk-gap : length l ≤ 256 → lower-in x marks l ≡ false → first-in x marks l ≡ length l → Walked limit first l n places x
+    walk-gap m q f = stopped (above-walk x (limit - n) _ (none-above x marks l (omega (arith, w .marked)) q f))
 
     pub walk-step : (at : ℕ) → length l ≤ 256 → limit ≤ 8 → n < limit → lower-in x marks l ≡ false → first-in x marks l ≡ at → at < length l
         → Walking limit first l (suc n) (set places n at) (set marks at 1) (next-height x)
@@ -261,6 +281,7 @@ module _ (limit first : ℕ) (l : List Entry) where
           few = k;
           room = length-set places n at ∙ w .room;
           marked = length-set marks at 1 ∙ w .marked;
+          left = omega (arith, w .left, ap length (here .1), length-sorted (keepBy marks l), length-sorted (keepBy (set marks at 1) l));
           so-far = w .so-far ∙ ap (λ (r : List Hash). hashes-at l (take n places) ++ r) (walk-on (limit - n) (limit - suc n) x (getD l at blank) _ _ (omega arith) (here .1) (here .0))
               ∙ sym (ap (λ (ps : List ℕ). hashes-at l ps ++ rest) taken ∙ ap (λ (hs : List Hash). hs ++ rest) (hashes-append l (take n places) (at ∷ [])) ∙ append-assoc (hashes-at l (take n places)) (getD l at blank .hash ∷ []) rest);
           end = ap next-height (w .end) ∙ sym (ap (λ (ps : List ℕ). expected-after (hashes-at l ps) first) taken ∙ ap (λ (hs : List Hash). expected-after hs first) (hashes-append l (take n places) (at ∷ [])) ∙ expected-append (hashes-at l (take n places)) (getD l at blank .hash) first);
@@ -290,6 +311,10 @@ pub record Searching (x n limit i at : ℕ) (ms : List ℕ) (l : List Entry) : T
   pub place : at ≡ i + first-in x (drop i ms) (drop i l)
   pub room : at < length l → n < limit
 
+-- at the search's end an entry that follows is found
+abbrev pub Found : ℕ → ℕ → List Entry → Type 0
+Found i at l = i ≡ 0 → at < length l
+
 module _ (x n limit : ℕ) (ms : List ℕ) (l : List Entry) where
   pub search-start : (k : ℕ) → k ≡ length l → Searching x n limit k k ms l
   search-start k e = record {
@@ -306,11 +331,11 @@ module _ (x n limit : ℕ) (ms : List ℕ) (l : List Entry) where
     both-cons : {A : Type 0} (f : List ℕ → List Entry → A) → f (drop i ms) (drop i l) ≡ f (getD ms i 0 ∷ drop (suc i) ms) (getD l i blank ∷ drop (suc i) l)
     both-cons f = (λ j. f (drop-cons ms i 0 (omega arith) j) (drop-cons l i blank h j))
 
-    pub search-gap : gap (getD ms i 0) (getD l i blank .height) x ≡ true → lower-in x (drop i ms) (drop i l) ≡ true
+    pub search-behind : behind (getD ms i 0) (getD l i blank .height) x ≡ true → lower-in x (drop i ms) (drop i l) ≡ true
     unfolding lower-in
-    search-gap q = both-cons (lower-in x) ∙ rw q
+    search-behind q = both-cons (lower-in x) ∙ rw q
 
-    pub search-step : (k at r : ℕ) (b : Bool) → k ≡ suc i → Searching x n limit k at ms l → gap (getD ms i 0) (getD l i blank .height) x ≡ false
+    pub search-step : (k at r : ℕ) (b : Bool) → k ≡ suc i → Searching x n limit k at ms l → behind (getD ms i 0) (getD l i blank .height) x ≡ false
         → follows (getD ms i 0) (getD l i blank .height) x ≡ b → r ≡ cond b i at → (b ≡ true → n < limit) → Searching x n limit i r ms l
     unfolding lower-in first-in
     search-step k at r b e s g f q room = record {
@@ -348,6 +373,16 @@ module _ (x n limit : ℕ) (ms : List ℕ) (l : List Entry) where
       let z : i ≡ 0 = omega arith in
       let f : at ≡ 0 + first-in x ms l = s .place ∙ ap (λ (m : ℕ). m + first-in x (drop m ms) (drop m l)) z in
       (ap (λ (m : ℕ). lower-in x (drop m ms) (drop m l)) (sym z) ∙ s .calm, (omega arith, omega (arith, first-le ms l)))
+
+-- the search is at its end without an entry that follows, or not
+pub gap-met : (i at count : ℕ) → eqb i 0 && eqb at count ≡ true → (i ≡ 0) × (at ≡ count)
+gap-met i at count q = elim (both (eqb i 0)) [
+  | inl e ↦ let q′ = rw e at q in (eqb-true i 0 e, eqb-true at count q′)
+  | inr e ↦ let q′ = rw e at q in never q′
+]
+
+pub gap-left : (i at count : ℕ) → eqb i 0 && eqb at count ≡ false → i ≡ 0 → at ≡ count → ⊥
+gap-left i at count q e a = let q′ = rw (eq-eqb i 0 e, eq-eqb at count a) at q in never (sym q′)
 
 -- the limit is met, or not yet
 pub limit-met : (b : Bool) (n limit : ℕ) → b && eqb n limit ≡ true → n ≡ limit

@@ -7,7 +7,7 @@ ghost use lib.Dec.{eqb};
 ghost use Rattle.model.specs.Numbers.{max-height};
 ghost use Rattle.model.specs.Layout.{window-of, blank};
 ghost use Rattle.laws.specs.Whole.{Whole};
-ghost use Rattle.prefix_probe.specs.Walks.{gap, follows, Walked};
+ghost use Rattle.prefix_probe.specs.Walks.{behind, follows, Walked};
 use model::sizes;
 
 // How far the walk went: the number of entries, their places, the height expected next.
@@ -17,9 +17,9 @@ pub struct Walk {
     pub end: u64,
 }
 
-// `gap`
-fn is_gap(mark: u64, height: u64, expected: u64) -> bool
-    ensures { λ r. ⌜ r ≡ gap mark height expected ⌝ }
+// `behind`
+fn is_behind(mark: u64, height: u64, expected: u64) -> bool
+    ensures { λ r. ⌜ r ≡ behind mark height expected ⌝ }
 {
     if mark != 0 {
         return false;
@@ -44,6 +44,13 @@ fn at_limit(here: bool, n: usize, limit: usize) -> bool
     here & (n == limit)
 }
 
+// The search is at its end, and no entry follows.
+fn at_gap(i: usize, at: usize, count: usize) -> bool
+    ensures { λ r. ⌜ r ≡ eqb i 0 && eqb at count ⌝ }
+{
+    (i == 0) & (at == count)
+}
+
 fn nearer(here: bool, i: usize, at: usize) -> usize
     ensures { λ r. ⌜ r ≡ cond here i at ⌝ }
 {
@@ -61,7 +68,8 @@ fn height_at(words: &[u64], i: usize) -> u64
     e.height
 }
 
-// `walk` of the entries by height: each turn searches those that are left for the one at the height expected.
+// `walk` of the entries by height: while entries are left, each turn searches them for the one at the height expected. The walk is left from inside the
+// search: at an entry that is behind, at the limit, and at the first gap.
 pub fn walk_up(words: &[u64], limit: usize, first: u64) -> Walk
     requires { ⌜ Whole (now words) × ((limit ≤ 8) × (first ≤ max-height)) ⌝ }
     ensures { λ r. ⌜ Walked limit first (window-of (now (words .entry)) .queue .pending) (r .n) (r .places) (r .end) ⌝ }
@@ -71,14 +79,14 @@ pub fn walk_up(words: &[u64], limit: usize, first: u64) -> Walk
     let mut places: [usize; sizes::PROBED] = [0; sizes::PROBED];
     let mut n = 0;
     let mut expected = first;
-    'walk: while n <= limit {
+    'walk: while n < count {
         let mut at = count;
         let mut i = count;
         while i > 0 {
             i -= 1;
             let mark = marks[i];
             let x = height_at(words, i);
-            if is_gap(mark, x, expected) {
+            if is_behind(mark, x, expected) {
                 break 'walk;
             }
             let here = follows(mark, x, expected);
@@ -86,9 +94,9 @@ pub fn walk_up(words: &[u64], limit: usize, first: u64) -> Walk
                 break 'walk;
             }
             at = nearer(here, i, at);
-        }
-        if at == count {
-            break 'walk;
+            if at_gap(i, at, count) {
+                break 'walk;
+            }
         }
         marks[at] = 1;
         places[n] = at;

@@ -16,15 +16,14 @@ use Rattle.model.specs.Layout.{blank, planned-words}
 use Rattle.model.specs.Perform.{says}
 use Rattle.model.specs.Queries.{plan-values}
 use Rattle.model.specs.Races.{Planned, no-plan, planned, win-blocks, prefix-probe-plan}
-use Rattle.model.specs.Says.{plan-says}
 use Rattle.model.specs.Window.{Window}
 use Rattle.model.specs.declared.Hash.{Hash}
 use Rattle.model.specs.declared.Entry.{Entry}
-use Rattle.model.specs.declared.Plan.{Plan}
-use Rattle.model.specs.declared.Plan.the-variants.{Refused, NoPlan, Planned as PlanOf}
 use Rattle.laws.specs.Numbers.{both}
 use Rattle.laws.specs.Heads.{hashes-said}
 use Rattle.laws.specs.Tables.{length-hashes}
+use Rattle.plans.specs.Answers.{planned-part, plan-answer-says}
+use Rattle.plans.specs.declared.PlanAnswer.{PlanAnswer}
 use Rattle.plans.specs.Rows.{row-words, row-hash, hashes-from, rows-words, rows-hashes, hashes-rows, zero-row, rows-planned}
 use Rattle.prefix_probe.specs.Walks.{hashes-at}
 use Rattle.probe_plan.specs.Plans.{planned-by, header, Plans, count-planned}
@@ -139,24 +138,14 @@ pub plan-row : (l : List Entry) (ps : List ℕ) (n j : ℕ) → j < n → n ≤ 
 plan-row l ps n j h b =
     ap (λ (k : ℕ). getD l k blank .hash) (sym (getD-take n ps j 0 h)) ∙ at-place l (take n ps) j (omega (arith, length-take n ps))
 
--- ---- the answer of the query: the header, and the words of as many rows as it counts
-
-abbrev pub counted : Plan → ℕ
-counted (Refused n) = 0
-counted NoPlan = 0
-counted (PlanOf owner n end) = n
-
-abbrev pub said-words : Plan → List (List ℕ) → List ℕ
-said-words r rows = take (4 * counted r) (rows-words 8 rows)
+-- ---- the answer of the query: the header, and the words of its hashes, 0 after them
 
 first-words : (hs : List Hash) → take (4 * length hs) (planned-words hs) ≡ hashes-words hs
 unfolding planned-words pad
 first-words hs = take-at (hashes-words hs) (replicate (32 - length (hashes-words hs)) 0) (4 * length hs) (length-hashes hs)
 
-pub plan-said : (w : Window) (rows : List (List ℕ)) → rows-words 8 rows ≡ planned-words (hashes-of (prefix-probe-plan w))
-    → plan-says (header (prefix-probe-plan w)) (said-words (header (prefix-probe-plan w)) rows) ≡ says 0 (plan-values (prefix-probe-plan w))
-plan-said w rows = by (prefix-probe-plan w)
-  where
-    by : (p : Planned) → rows-words 8 rows ≡ planned-words (hashes-of p) → plan-says (header p) (said-words (header p) rows) ≡ says 0 (plan-values p)
-    by no-plan e = refl
-    by (planned owner hs end) e = ap (λ (l : List ℕ). says 0 (owner ∷ length hs ∷ end ∷ l)) (ap (take (4 * length hs)) e ∙ first-words hs)
+pub plan-said : (r : PlanAnswer) (p : Planned) → r .plan ≡ header p → r .hashes ≡ planned-words (hashes-of p)
+    → (plan-answer-says r ≡ says 0 (plan-values p)) × (r .hashes ≡ pad 32 0 (planned-part r))
+unfolding planned-words hashes-words
+plan-said r no-plan e h = rw (e, h) (refl, refl)
+plan-said r (planned owner hs end) e h = rw (e, h) (ap (λ (l : List ℕ). says 0 (owner ∷ length hs ∷ end ∷ l)) (first-words hs), ap (pad 32 0) (sym (first-words hs)))

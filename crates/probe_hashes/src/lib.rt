@@ -1,18 +1,23 @@
-// 01, module 8: the planned hashes of a prefix probe by value, a row of four words each, of words that hold a window.
+// 01, module 8: the planned hashes of a prefix probe by value, a row of four words each, and the whole answer, of words that hold a window.
 ghost use mathlib.Core.Path.{_≡_};
 ghost use mathlib.Core.Bool.{cond};
 ghost use Prim.Native.Nat.{_≤_, _<_};
 ghost use lib.ListN.{length, getD};
 ghost use lib.Dec.{leb};
 ghost use Rattle.model.specs.Numbers.{min-estimate};
+ghost use Rattle.model.specs.Lists.{pad};
 ghost use Rattle.model.specs.Hash.{hash-words};
 ghost use Rattle.model.specs.Layout.{window-of, blank, planned-words};
 ghost use Rattle.model.specs.Races.{win-blocks, prefix-probe-plan};
+ghost use Rattle.model.specs.Queries.{plan-values};
+ghost use Rattle.model.specs.Perform.{says};
 ghost use Rattle.laws.specs.Pending.{Ranged};
 ghost use Rattle.laws.specs.Whole.{Whole};
+ghost use Rattle.plans.specs.Answers.{planned-part, plan-answer-says};
 ghost use Rattle.plans.specs.Rows.{rows-words};
 ghost use Rattle.probe_plan.specs.Plans.{Plans};
 ghost use Rattle.probe_hashes.specs.Rows.{hashes-of};
+use plans::PlanAnswer;
 use probe_plan::Planning;
 
 // The hash of an entry.
@@ -52,11 +57,18 @@ pub fn plan_hashes(words: &[u64], p: Planning) -> [[u64; 4]; 8]
     rows
 }
 
-// The same of the window's plan; its header is `probe_plan::prefix_probe_plan`.
-pub fn prefix_probe_hashes(words: &[u64]) -> [[u64; 4]; 8]
+// `prefix-probe-plan`, whole: its numbers and its hashes.
+pub fn prefix_probe_plan(words: &[u64]) -> PlanAnswer
     requires { ⌜ Whole (now words) × (Ranged (window-of (now words)) × (min-estimate ≤ window-of (now words) .mean)) ⌝ }
-    ensures { λ r. ⌜ rows-words 8 r ≡ planned-words (hashes-of (prefix-probe-plan (window-of (now (words .entry))))) ⌝ }
+    ensures { λ r. ⌜
+        (plan-answer-says r ≡ says 0 (plan-values (prefix-probe-plan (window-of (now (words .entry))))))
+        × (r .hashes ≡ pad 32 0 (planned-part r))
+        ⌝ }
 {
     let p = probe_plan::make_plan(words);
-    plan_hashes(words, p)
+    let rows = plan_hashes(words, p);
+    PlanAnswer {
+        plan: probe_plan::header_of(p),
+        hashes: plans::planned_list(rows),
+    }
 }

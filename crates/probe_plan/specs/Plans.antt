@@ -36,6 +36,10 @@ abbrev pub header : Planned → Plan
 header no-plan = NoPlan
 header (planned owner hashes end) = PlanOf owner (length hashes) end
 
+-- the same of the code's plan
+abbrev pub header-by : Planning → Plan
+header-by r = cond (leb win-blocks (r .n)) (PlanOf (r .owner) (r .n) (r .end - 1)) NoPlan
+
 -- the plan of the window, with places that are there
 pub record Plans (r : Planning) (w : Window) : Type 0 where
   pub is : planned-by r (w .queue .pending) ≡ prefix-probe-plan w
@@ -128,17 +132,15 @@ module _ (source : ℕ) (h : Hash) (w : Window) (p : Probe) (ep : p ≡ w .races
     unfolding probe-offered
     offered-to n x e = rw (← ep, q, n, ← e)
 
--- the header of a plan by the code
-module _ (r : Planning) (w : Window) (p : Plans r w) where
-  pub header-none : r .n < 4 → NoPlan ≡ header (prefix-probe-plan w)
-  unfolding planned-by
-  header-none h = sym (ap header (sym (p .is)) ∙ rw (lt-leb win-blocks (r .n) h))
-
-  pub header-some : 4 ≤ r .n → (end : ℕ) → end ≡ r .end - 1 → PlanOf (r .owner) (r .n) end ≡ header (prefix-probe-plan w)
-  unfolding planned-by
-  header-some h end e =
-      sym (ap header (sym (p .is)) ∙ rw (le-leb win-blocks (r .n) h)
-      (λ i. PlanOf (r .owner) (count-planned (w .queue .pending) (r .n) (r .places) (omega (arith, p .few, p .room)) i) (sym e i)))
+-- the header of a plan by the code is the plan's
+pub header-planned : (r : Planning) (w : Window) → Plans r w → header-by r ≡ header (prefix-probe-plan w)
+unfolding planned-by
+header-planned r w p =
+    let n = count-planned (w .queue .pending) (r .n) (r .places) (omega (arith, p .few, p .room)) in
+    elim (both (leb win-blocks (r .n))) [
+      | inl q ↦ rw q (sym (ap header (sym (p .is)) ∙ rw q (ap (λ (k : ℕ). PlanOf (r .owner) k (r .end - 1)) n)))
+      | inr q ↦ rw q (sym (ap header (sym (p .is)) ∙ rw q))
+    ]
 
 -- no plan at all, and the plan of a walk
 pub none-plans : (r : Planning) (w : Window) → (r .n ≡ 0) × (length (r .places) ≡ 8) → no-plan ≡ prefix-probe-plan w → Plans r w

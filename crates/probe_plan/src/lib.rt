@@ -7,10 +7,10 @@ ghost use lib.Dec.{eqb};
 ghost use Rattle.model.specs.Numbers.{min-estimate};
 ghost use Rattle.model.specs.Lists.{any};
 ghost use Rattle.model.specs.Layout.{window-of};
-ghost use Rattle.model.specs.Races.{plan-limit, is-missing, is-seat, is-probing, prefix-probe-plan, probe-offered};
+ghost use Rattle.model.specs.Races.{plan-limit, is-missing, is-seat, is-probing, probe-offered};
 ghost use Rattle.laws.specs.Whole.{Whole};
 ghost use Rattle.laws.specs.Pending.{Ranged};
-ghost use Rattle.probe_plan.specs.Plans.{header, Plans, busy, passed};
+ghost use Rattle.probe_plan.specs.Plans.{header-by, Plans, busy, passed};
 use model::Front;
 use model::Hash;
 use model::Plan;
@@ -156,12 +156,10 @@ pub fn make_plan(words: &[u64]) -> Planning
     }
 }
 
-// The header of `prefix-probe-plan`: owner, number of hashes, end height.
-pub fn prefix_probe_plan(words: &[u64]) -> Plan
-    requires { ⌜ Whole (now words) × (Ranged (window-of (now words)) × (min-estimate ≤ window-of (now words) .mean)) ⌝ }
-    ensures { λ r. ⌜ r ≡ header (prefix-probe-plan (window-of (now (words .entry)))) ⌝ }
+// `header-by`: owner, number of hashes, end height.
+pub fn header_of(p: Planning) -> Plan
+    ensures { λ r. ⌜ r ≡ header-by p ⌝ }
 {
-    let p = make_plan(words);
     if p.n < sizes::WIN_BLOCKS {
         return Plan::NoPlan;
     }

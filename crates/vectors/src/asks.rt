@@ -1,4 +1,4 @@
-// The queries by their numbers in crates/kofudile/API.md. None has a report, so none differs in it.
+// The queries by their numbers in crates/kofudile/API.md; 49 asks for the hashes of the plan, 48 for its numbers. None has a report, so none differs in it.
 ghost use Prim.Native.Nat.{_+_, _%_, _^_};
 ghost use mathlib.Core.Path.{_≡_};
 ghost use mathlib.Core.Bool.{true};
@@ -128,8 +128,8 @@ fn missing(words: &[u64], numbers: &[u64], kind: u64, at: u64) -> Said
 fn hashes(words: &[u64]) -> Said
     ensures { λ r. ⌜ r .reported ≡ true ⌝ }
 {
-    let f = flat::of_rows(window_queries::prefix_probe_hashes(words));
-    let row = f.words;
+    let f = flat::of_plan(window_queries::prefix_probe_plan(words));
+    let row = f.hashes;
     Said {
         fields: row,
         reported: true,

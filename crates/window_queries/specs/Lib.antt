@@ -1,3 +1,2 @@
 pub mod Asks
-pub mod Plan
 pub mod Seated

@@ -4,11 +4,10 @@ ghost use mathlib.Core.List.{[]};
 ghost use Rattle.model.specs.Refusals.{queries};
 ghost use Rattle.model.specs.Queries.{reads, perhaps, source-values, probe-values, capacity-values, preferred-peer, probe-plan, probe-start, front-interval-ewma-ms, asks-owner, asks-queue-start, asks-compute-capacity, asks-probe-offered, pending-len, pending-bytes, asks-expired-capacity, stall-timeout, max-pending-blocks, min-peers-for-fanout, fanout-active, pending-high-water, stalling-peer, peer-inflight, active-peers, decay-floor, request-cursor, ewma-block-bytes, asks-request-capacity, asks-contains, asks-count-for, asks-downloading, owner-timeout, asks-hedge-offered, asks-has-expired, asks-cooldown};
 ghost use Rattle.model.specs.Perform.{says, perform};
-ghost use Rattle.model.specs.Says.{number-says, pair-says, perhaps-says, perhaps-pair-says, plan-says, truth-says};
+ghost use Rattle.model.specs.Says.{number-says, pair-says, perhaps-says, perhaps-pair-says, truth-says};
 ghost use Rattle.model.specs.Lists.{pad};
 ghost use Rattle.capacity.specs.OnNumbers.{batch-says};
-ghost use Rattle.plans.specs.Rows.{rows-words};
-ghost use Rattle.window_queries.specs.Plan.{hash-part};
+ghost use Rattle.plans.specs.Answers.{planned-part, plan-answer-says};
 use capacity::Batch;
 use model::Hash;
 use model::Number;
@@ -20,6 +19,7 @@ use model::Probe;
 use model::Source;
 use model::Truth;
 use model::limits;
+use plans::PlanAnswer;
 
 // How many blocks are pending.
 pub fn pending_len(words: &[u64]) -> Number
@@ -430,26 +430,19 @@ pub fn probe_offered(words: &[u64], source: u64, h: Hash) -> Truth
     Truth::Denied
 }
 
-// ---- the plan of a prefix probe: its three numbers, and its hashes
-
-pub fn prefix_probe_plan(words: &[u64]) -> Plan
-    ensures { λ r. ⌜ plan-says r (hash-part (perform (queries (reads probe-plan)) (now (words .entry)) [] .answer)) ≡ perform (queries (reads probe-plan)) (now (words .entry)) [] .answer ⌝ }
+// The plan of a prefix probe, if any: owner, number of hashes, end height, and the words of the hashes, 0 after them.
+pub fn prefix_probe_plan(words: &[u64]) -> PlanAnswer
+    ensures { λ r. ⌜
+        (plan-answer-says r ≡ perform (queries (reads probe-plan)) (now (words .entry)) [] .answer)
+        × (r .hashes ≡ pad 32 0 (planned-part r))
+        ⌝ }
 {
     let n = admission::refused_by(words, true);
     if n != 0 {
-        return Plan::Refused(n);
+        return PlanAnswer {
+            plan: Plan::Refused(n),
+            hashes: [0; 32],
+        };
     }
-    probe_plan::prefix_probe_plan(words)
-}
-
-// The planned hashes in the first rows, and 0 in the others; where `prefix_probe_plan` refuses or has no plan, in all. `plan-whole` says that the two
-// together are the answer.
-pub fn prefix_probe_hashes(words: &[u64]) -> [[u64; 4]; 8]
-    ensures { λ r. ⌜ rows-words 8 r ≡ pad 32 0 (hash-part (perform (queries (reads probe-plan)) (now (words .entry)) [] .answer)) ⌝ }
-{
-    let n = admission::refused_by(words, true);
-    if n != 0 {
-        return [[0; 4]; 8];
-    }
-    probe_hashes::prefix_probe_hashes(words)
+    probe_hashes::prefix_probe_plan(words)
 }

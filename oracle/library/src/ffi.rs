@@ -118,11 +118,6 @@ pub struct Plan {
     pub owner: u64,
     pub count: u64,
     pub end_height: u64,
-}
-
-#[repr(C)]
-#[derive(Clone, Copy, Debug, PartialEq, Eq)]
-pub struct Hashes {
     pub hashes: [Hash; 8],
 }
 
@@ -268,5 +263,4 @@ unsafe extern "C" {
     pub fn kofudile_front_interval_ewma_ms(w: Lent, n: usize) -> Perhaps;
     pub fn kofudile_active_prefix_probe_started_at(w: Lent, n: usize) -> Perhaps;
     pub fn kofudile_prefix_probe_plan(w: Lent, n: usize) -> Plan;
-    pub fn kofudile_prefix_probe_hashes(w: Lent, n: usize) -> Hashes;
 }

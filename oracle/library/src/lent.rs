@@ -248,9 +248,7 @@ impl Lent {
             Query::EffectivePeerInflight => number(unsafe { kofudile_effective_peer_inflight(w, n) }, plain),
             Query::StallingPeer => perhaps_pair(unsafe { kofudile_stalling_peer(w, n) }),
             Query::PreferredPeer => perhaps(unsafe { kofudile_preferred_peer(w, n) }),
-            Query::PrefixProbePlan => {
-                planned(unsafe { kofudile_prefix_probe_plan(w, n) }, unsafe { kofudile_prefix_probe_hashes(w, n) })
-            }
+            Query::PrefixProbePlan => planned(unsafe { kofudile_prefix_probe_plan(w, n) }),
             Query::ContainsPending { hash } => number(unsafe { kofudile_contains_pending(w, n, flat(hash)) }, flag),
             Query::PendingOwner { hash } => perhaps(unsafe { kofudile_pending_owner(w, n, flat(hash)) }),
             Query::ActiveDownloadingPeers => number(unsafe { kofudile_active_downloading_peers(w, n) }, plain),
@@ -401,10 +399,10 @@ fn decided(given: Blocked) -> Said {
     said(refused, &others, given, answer.map(Answer::Decided), 0)
 }
 
-fn planned(given: Plan, hashes: Hashes) -> Said {
-    let Plan { refused, present, owner, count, end_height } = given;
+fn planned(given: Plan) -> Said {
+    let Plan { refused, present, owner, count, end_height, hashes } = given;
     let empty = Hash { a: 0, b: 0, c: 0, d: 0 };
-    let (used, rest) = hashes.hashes.split_at(count.min(8) as usize);
+    let (used, rest) = hashes.split_at(count.min(8) as usize);
     let plan = || {
         let hashes: Vec<calls::Hash> = used.iter().map(plain_hash).collect();
         let end_height = end_height.try_into().ok()?;
@@ -416,6 +414,6 @@ fn planned(given: Plan, hashes: Hashes) -> Said {
         1 => plan().map(|plan| Answer::Planned(Some(plan))),
         _ => None,
     };
-    let others = [present, owner, count, end_height, u64::from(hashes.hashes.iter().any(|hash| *hash != empty))];
-    said(refused, &others, (given, hashes), answer, 0)
+    let others = [present, owner, count, end_height, u64::from(hashes.iter().any(|hash| *hash != empty))];
+    said(refused, &others, given, answer, 0)
 }
