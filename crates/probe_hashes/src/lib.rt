@@ -17,6 +17,7 @@ ghost use Rattle.plans.specs.Answers.{planned-part, plan-answer-says};
 ghost use Rattle.plans.specs.Rows.{rows-words};
 ghost use Rattle.probe_plan.specs.Plans.{Plans};
 ghost use Rattle.probe_hashes.specs.Rows.{hashes-of};
+use model::sizes;
 use plans::PlanAnswer;
 use probe_plan::Planning;
 
@@ -34,7 +35,7 @@ fn row_at(words: &[u64], at: usize) -> [u64; 4]
 fn how_many(n: usize) -> usize
     ensures { λ r. ⌜ r ≡ cond (leb win-blocks n) n 0 ⌝ }
 {
-    if n < 4 {
+    if n < sizes::WIN_BLOCKS {
         return 0;
     }
     n

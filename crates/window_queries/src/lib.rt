@@ -19,6 +19,7 @@ use model::Probe;
 use model::Source;
 use model::Truth;
 use model::limits;
+use model::sizes;
 use plans::PlanAnswer;
 
 // How many blocks are pending.
@@ -441,7 +442,7 @@ pub fn prefix_probe_plan(words: &[u64]) -> PlanAnswer
     if n != 0 {
         return PlanAnswer {
             plan: Plan::Refused(n),
-            hashes: [0; 32],
+            hashes: [0; sizes::PLANNED_WORDS],
         };
     }
     probe_hashes::prefix_probe_plan(words)
