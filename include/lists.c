@@ -1,5 +1,9 @@
-/* The header's functions over lists of hashes pass four words for each hash; then a won race, the deepest call. Ends with 0, or prints a line that fails. */
+/*
+ * The header's own functions: lists of hashes pass four words for each hash, and an empty one's null pointer is not handed on; a won race, the deepest
+ * call; the original's budgets; the order of a hash's bytes; the texts of refusals. Ends with 0, or prints a line that fails.
+ */
 #include <stdio.h>
+#include <string.h>
 
 #include "kofudile.h"
 
@@ -8,6 +12,44 @@
 
 static uint64_t words[KOFUDILE_WORDS];
 static kofudile_release report[KOFUDILE_PLACES];
+
+/* Empty lists without a pointer: a request that raises the frontier, a confirmation of nothing. Each alone would be refused at its pointer. */
+static int empty_lists(void) {
+    HOLDS(kofudile_mark_requested(words, KOFUDILE_WORDS, 1, NULL, NULL, 0, 7, UINT64_MAX, UINT64_MAX, 0).refused == 0);
+    HOLDS(kofudile_request_cursor(words, KOFUDILE_WORDS).value == 7);
+    HOLDS(kofudile_confirm_prefix_probe(words, KOFUDILE_WORDS, 1, NULL, 0, NULL, 0, 0) == 0);
+    HOLDS(kofudile_pending_len(words, KOFUDILE_WORDS).value == 5);
+    return 0;
+}
+
+/* Each budget opens a window; they differ in the two numbers of fan-out. */
+static int budgets(const uint64_t *keys) {
+    kofudile_settings usual = kofudile_default_sync_budget(600 * KOFUDILE_SECOND);
+    kofudile_settings fast = kofudile_fast_sync_budget(600 * KOFUDILE_SECOND);
+    HOLDS(usual.max_pending_bytes == 536870912 && usual.block_spacing == UINT64_C(600000000000));
+    HOLDS(usual.fanout_peer_inflight == 16 && usual.min_peers_for_fanout == 8);
+    HOLDS(fast.fanout_peer_inflight == 8 && fast.min_peers_for_fanout == 2);
+    fast.fanout_peer_inflight = 16;
+    fast.min_peers_for_fanout = 8;
+    HOLDS(memcmp(&usual, &fast, sizeof usual) == 0);
+    HOLDS(kofudile_open(words, KOFUDILE_WORDS, usual, keys, KOFUDILE_SEATS, 0) == 0);
+    HOLDS(kofudile_effective_owner_timeout(words, KOFUDILE_WORDS).value == 600 * KOFUDILE_SECOND);
+    HOLDS(kofudile_stall_timeout(words, KOFUDILE_WORDS).value == 2 * KOFUDILE_SECOND);
+    return 0;
+}
+
+static int bytes_and_texts(void) {
+    uint8_t bytes[32];
+    for (int i = 0; i < 32; i++) bytes[i] = (uint8_t)(i + 1);
+    kofudile_hash hash = kofudile_hash_of(bytes);
+    HOLDS(hash.a == UINT64_C(0x0102030405060708) && hash.b == UINT64_C(0x090a0b0c0d0e0f10));
+    HOLDS(hash.c == UINT64_C(0x1112131415161718) && hash.d == UINT64_C(0x191a1b1c1d1e1f20));
+    for (uint64_t i = 0; i <= KOFUDILE_REFUSED_BODY_SIZE; i++)
+        for (uint64_t j = i + 1; j <= KOFUDILE_REFUSED_BODY_SIZE + 1; j++) HOLDS(strcmp(kofudile_refusal_text(i), kofudile_refusal_text(j)) != 0);
+    HOLDS(strcmp(kofudile_refusal_text(KOFUDILE_REFUSED_BODY_SIZE + 1), kofudile_refusal_text(UINT64_MAX)) == 0);
+    HOLDS(kofudile_abi_1() == KOFUDILE_ABI);
+    return 0;
+}
 
 int main(void) {
     uint64_t keys[KOFUDILE_SEATS] = {0};
@@ -21,22 +63,23 @@ int main(void) {
     }
     uint64_t alternate = 2;
     HOLDS(kofudile_open(words, KOFUDILE_WORDS, settings, keys, KOFUDILE_SEATS, 0) == 0);
-    HOLDS(kofudile_mark_requested_of(words, KOFUDILE_WORDS, 1, hashes, heights, 5, 6, UINT64_MAX, UINT64_MAX, 0).refused == 0);
+    HOLDS(kofudile_mark_requested(words, KOFUDILE_WORDS, 1, hashes, heights, 5, 6, UINT64_MAX, UINT64_MAX, 0).refused == 0);
     HOLDS(kofudile_pending_len(words, KOFUDILE_WORDS).value == 5);
     HOLDS(kofudile_contains_pending(words, KOFUDILE_WORDS, hashes[4]).value == 1);
+    if (empty_lists() != 0) return 1;
 
     kofudile_plan plan = kofudile_prefix_probe_plan(words, KOFUDILE_WORDS);
     kofudile_hashes planned = kofudile_prefix_probe_hashes(words, KOFUDILE_WORDS);
     HOLDS(plan.present == 1 && plan.count == 5);
-    HOLDS(kofudile_confirm_prefix_probe_of(words, KOFUDILE_WORDS, plan.owner, planned.hashes, 4, &alternate, 1, 0) == 0);
+    HOLDS(kofudile_confirm_prefix_probe(words, KOFUDILE_WORDS, plan.owner, planned.hashes, 4, &alternate, 1, 0) == 0);
     HOLDS(kofudile_active_prefix_probe_started_at(words, KOFUDILE_WORDS).present == 0);
-    HOLDS(kofudile_confirm_prefix_probe_of(words, KOFUDILE_WORDS, plan.owner, planned.hashes, plan.count, &alternate, 1, 0) == 0);
+    HOLDS(kofudile_confirm_prefix_probe(words, KOFUDILE_WORDS, plan.owner, planned.hashes, plan.count, &alternate, 1, 0) == 0);
     HOLDS(kofudile_active_prefix_probe_started_at(words, KOFUDILE_WORDS).present == 1);
 
     kofudile_received body = {0, 0, 0, 0};
     for (int i = 0; i < 4; i++)
         body = kofudile_mark_received_from(words, KOFUDILE_WORDS, report, KOFUDILE_PLACES, hashes[i], 80, true, alternate, 0);
     HOLDS(body.refused == 0 && body.places == 2);
-    HOLDS(report[0].reason == KOFUDILE_DELIVERED && report[1].reason == KOFUDILE_PREFIX_RACE_LOST);
-    return 0;
+    HOLDS(report[0].reason == KOFUDILE_REASON_DELIVERED && report[1].reason == KOFUDILE_REASON_PREFIX_RACE_LOST);
+    return budgets(keys) || bytes_and_texts();
 }
