@@ -55,9 +55,17 @@ fn sources(root: &Path) -> Vec<PathBuf> {
 /// The functions that src/ffi.rs declares and the archive has not.
 fn missing(archive: &[u8], declared: &str) -> Vec<String> {
     let names = declared.split("pub fn ").skip(1).filter_map(|text| text.split('(').next());
-    let there = |name: &&str| {
-        let symbol = format!("{name}\0");
-        archive.windows(symbol.len()).any(|bytes| bytes == symbol.as_bytes())
-    };
-    names.filter(|name| !there(name)).map(str::to_string).collect()
+    let there = symbols(archive).unwrap_or_default();
+    names.filter(|name| !there.contains(&name.as_bytes())).map(str::to_string).collect()
+}
+
+/// The names in the archive's index, its first member: how many there are in four bytes, as many offsets, the names. A member's size stands in its header.
+fn symbols(archive: &[u8]) -> Option<Vec<&[u8]>> {
+    const MAGIC: &[u8] = b"!<arch>\n";
+    const HEADER: usize = 60;
+    let (header, rest) = archive.strip_prefix(MAGIC)?.split_at_checked(HEADER)?;
+    let size = std::str::from_utf8(&header[48..58]).ok()?.trim().parse().ok()?;
+    let (count, rest) = rest.get(..size)?.split_first_chunk::<4>()?;
+    let names = rest.get(4 * u32::from_be_bytes(*count) as usize..)?;
+    header.starts_with(b"/ ").then(|| names.split(|byte| *byte == 0).collect())
 }
