@@ -39,8 +39,8 @@
  *   counts as the same peer come back. kofudile_retain_owned_by with flag 0 for the seat, before the new connection has it, drops the old one's entries, the time
  *   since which it is waited for, its last body, its part in both races, the preference for it and an observed timeout. What the seat keeps after that:
  *   - its key, which the opening alone sets, and with it the cooling of that key;
- *   - a stall episode that names the seat: a body from the new connection ends it, and where it is asked for the same block before the next look, its time
- *     runs from the old one's start.
+ *   - a stall episode that names the seat: a pending block's body from the new connection ends it, and where that is asked for the same block before the
+ *     next look, its time runs from the old one's start.
  *
  * TERMS
  *   seat     0 to 255: the host's number for a connection. Key: 0 to 255, one for each seat, for the address behind it; cooling goes by key.

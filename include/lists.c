@@ -1,6 +1,7 @@
 /*
  * The header's own functions: lists of hashes pass four words for each hash, and an empty one's null pointer is not handed on; a won race, the deepest
- * call; the original's budgets; the order of a hash's bytes; the texts of refusals. Ends with 0, or prints a line that fails.
+ * call; the original's budgets; the order of a hash's bytes; the texts of refusals. And what the header says of clocks and seats. Ends with 0, or prints
+ * a line that fails.
  */
 #include <stdio.h>
 #include <string.h>
@@ -13,7 +14,7 @@
 static uint64_t words[KOFUDILE_WORDS];
 static kofudile_release report[KOFUDILE_PLACES];
 
-/* Empty lists without a pointer: a request that raises the frontier, a confirmation of nothing. Each alone would be refused at its pointer. */
+/* Empty lists without a pointer: a request that raises the frontier, a confirmation of nothing. */
 static int empty_lists(void) {
     HOLDS(kofudile_mark_requested(words, KOFUDILE_WORDS, 1, NULL, NULL, 0, 7, UINT64_MAX, UINT64_MAX, 0).refused == 0);
     HOLDS(kofudile_request_cursor(words, KOFUDILE_WORDS).value == 7);
@@ -51,6 +52,46 @@ static int bytes_and_texts(void) {
     return 0;
 }
 
+static uint64_t ask(kofudile_hash hash, uint64_t clock) {
+    const uint32_t height = 1;
+    return kofudile_mark_requested(words, KOFUDILE_WORDS, 1, &hash, &height, 1, 2, UINT64_MAX, UINT64_MAX, clock).refused;
+}
+
+static kofudile_blocked look(uint64_t clock) {
+    const kofudile_hash none = {0, 0, 0, 0};
+    return kofudile_observe_blocked(words, KOFUDILE_WORDS, true, 1, false, none, false, 128, true, 2, clock);
+}
+
+/* After its entries went, seat 1 keeps the stall episode, and then its key's cooling. */
+static int reused_seat(const uint64_t *keys) {
+    uint64_t flags[KOFUDILE_SEATS] = {0};
+    const kofudile_hash hash = {1, 2, 3, 4};
+    HOLDS(kofudile_open(words, KOFUDILE_WORDS, kofudile_default_sync_budget(600 * KOFUDILE_SECOND), keys, KOFUDILE_SEATS, 0) == 0);
+    HOLDS(ask(hash, 0) == 0);
+    HOLDS(look(1).decision == KOFUDILE_DECISION_NONE);
+    HOLDS(kofudile_retain_owned_by(words, KOFUDILE_WORDS, report, KOFUDILE_PLACES, flags, KOFUDILE_SEATS).places == 1);
+    HOLDS(report[0].reason == KOFUDILE_REASON_SEAT_LOST);
+    HOLDS(kofudile_owner_queue_start(words, KOFUDILE_WORDS, 1).present == 0);
+    HOLDS(kofudile_stalling_peer(words, KOFUDILE_WORDS).present == 1);
+    HOLDS(ask(hash, 2 * KOFUDILE_SECOND) == 0);
+    kofudile_blocked blamed = look(2 * KOFUDILE_SECOND + 1);
+    HOLDS(blamed.decision == KOFUDILE_DECISION_BLAME_STALLER && blamed.owner == 1);
+    HOLDS(kofudile_retain_owned_by(words, KOFUDILE_WORDS, report, KOFUDILE_PLACES, flags, KOFUDILE_SEATS).places == 1);
+    HOLDS(kofudile_peer_in_staller_cooldown(words, KOFUDILE_WORDS, 1, 3 * KOFUDILE_SECOND).value == 1);
+    return 0;
+}
+
+/* A clock far ahead stays, until an opening. */
+static int far_clock(const uint64_t *keys) {
+    const uint64_t most = UINT64_C(1) << 62;
+    HOLDS(kofudile_expire_pending(words, KOFUDILE_WORDS, report, KOFUDILE_PLACES, most).refused == KOFUDILE_REFUSED_NONE);
+    HOLDS(kofudile_expire_pending(words, KOFUDILE_WORDS, report, KOFUDILE_PLACES, most - 1).refused == KOFUDILE_REFUSED_CLOCK);
+    HOLDS(kofudile_expired_pending_capacity(words, KOFUDILE_WORDS, 4 * KOFUDILE_SECOND).refused == KOFUDILE_REFUSED_CLOCK);
+    HOLDS(kofudile_open(words, KOFUDILE_WORDS, kofudile_default_sync_budget(0), keys, KOFUDILE_SEATS, 0) == KOFUDILE_REFUSED_NONE);
+    HOLDS(kofudile_expire_pending(words, KOFUDILE_WORDS, report, KOFUDILE_PLACES, 0).refused == KOFUDILE_REFUSED_NONE);
+    return 0;
+}
+
 int main(void) {
     uint64_t keys[KOFUDILE_SEATS] = {0};
     kofudile_settings settings = {256, 1u << 30, 256, 256, 16, 8, 256, 1000, 1000, 1000, 1000, 1000};
@@ -81,5 +122,5 @@ int main(void) {
         body = kofudile_mark_received_from(words, KOFUDILE_WORDS, report, KOFUDILE_PLACES, hashes[i], 80, true, alternate, 0);
     HOLDS(body.refused == 0 && body.places == 2);
     HOLDS(report[0].reason == KOFUDILE_REASON_DELIVERED && report[1].reason == KOFUDILE_REASON_PREFIX_RACE_LOST);
-    return budgets(keys) || bytes_and_texts();
+    return budgets(keys) || bytes_and_texts() || reused_seat(keys) || far_clock(keys);
 }
