@@ -1,9 +1,9 @@
 /*
  * A small host: opens a window, asks two peers for blocks, takes deliveries, sees a refusal, sweeps what was never sent. From the repository's root:
  *
- *   rt staticlib kofudile && cc -O2 -Iinclude include/example.c -Ltarget/staticlib -lkofudile -o target/example && target/example
+ *   mkdir -p target && cc -O2 -Iinclude include/example.c -Ldist -lkofudile -o target/example && target/example
  *
- * include/example.stdout is what it prints.
+ * With the library installed (`make install`) the flags are those of `pkg-config --cflags --libs kofudile`. include/example.stdout is what it prints.
  */
 #include <inttypes.h>
 #include <stdio.h>
@@ -11,7 +11,7 @@
 
 #include "kofudile.h"
 
-#define SECOND UINT64_C(1000000000)
+#define SECOND KOFUDILE_SECOND
 #define NO_LIMIT UINT64_MAX
 
 /* The window and the report: the host's own memory, lent to each call. */
@@ -35,7 +35,7 @@ static uint64_t request(uint64_t seat, uint32_t first, uint32_t count, uint64_t 
         heights[i] = first + i;
     }
     kofudile_number said =
-        kofudile_mark_requested_of(words, KOFUDILE_WORDS, seat, hashes, heights, count, first + count, NO_LIMIT, NO_LIMIT, clock);
+        kofudile_mark_requested(words, KOFUDILE_WORDS, seat, hashes, heights, count, first + count, NO_LIMIT, NO_LIMIT, clock);
     if (said.refused == 0)
         printf("asked seat %" PRIu64 " for blocks %" PRIu32 " to %" PRIu32 "; room for more: %s\n", seat, first, first + count - 1,
             said.value ? "yes" : "no");
@@ -55,7 +55,7 @@ static void status(void) {
 
 static void must(uint64_t refused) {
     if (refused != 0) {
-        printf("refused: %" PRIu64 "\n", refused);
+        printf("refused: %s\n", kofudile_refusal_text(refused));
         exit(1);
     }
 }
@@ -63,27 +63,14 @@ static void must(uint64_t refused) {
 int main(void) {
     uint64_t keys[KOFUDILE_SEATS];
     for (uint64_t seat = 0; seat < KOFUDILE_SEATS; seat++) keys[seat] = seat;
-    kofudile_settings settings = {
-        .max_pending_blocks = 256,
-        .max_pending_bytes = UINT64_C(536870912),
-        .max_received_blocks = 256,
-        .max_peer_inflight = 256,
-        .fanout_peer_inflight = 16,
-        .min_peers_for_fanout = 8,
-        .getdata_batch_limit = 256,
-        .block_spacing = 600 * SECOND,
-        .received_timeout = 60 * SECOND,
-        .stall_timeout_initial = 2 * SECOND,
-        .stall_timeout_max = 64 * SECOND,
-        .staller_cooldown = 64 * SECOND,
-    };
+    kofudile_settings settings = kofudile_default_sync_budget(600 * SECOND);
 
-    printf("before the opening: refused by %" PRIu64 "\n", kofudile_pending_len(words, KOFUDILE_WORDS).refused);
+    printf("before the opening: %s\n", kofudile_refusal_text(kofudile_pending_len(words, KOFUDILE_WORDS).refused));
     must(kofudile_open(words, KOFUDILE_WORDS, settings, keys, KOFUDILE_SEATS, 0));
     must(request(3, 1, 4, 1 * SECOND));
     must(request(7, 5, 2, 1 * SECOND));
     status();
-    printf("block 4 again: refused by %" PRIu64 "\n", request(7, 4, 3, 2 * SECOND));
+    printf("block 4 again: %s\n", kofudile_refusal_text(request(7, 4, 3, 2 * SECOND)));
 
     kofudile_received body = kofudile_mark_received_from(
         words, KOFUDILE_WORDS, report, KOFUDILE_PLACES, block(1), 1000000, true, 3, 3 * SECOND);
@@ -103,6 +90,6 @@ int main(void) {
     must(swept.refused);
     show("the sweep", swept.places);
     status();
-    printf("the clock back: refused by %" PRIu64 "\n", kofudile_expired_pending_capacity(words, KOFUDILE_WORDS, late - 1).refused);
+    printf("the clock back: %s\n", kofudile_refusal_text(kofudile_expired_pending_capacity(words, KOFUDILE_WORDS, late - 1).refused));
     return 0;
 }

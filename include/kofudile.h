@@ -1,9 +1,12 @@
 /*
  * Kofudile: the table of blocks that a node has asked for and not yet received.
  *
- * Link libkofudile.a (`rt staticlib kofudile` writes target/staticlib/libkofudile.a; x86-64, System V calls). It keeps nothing of its own: no globals, no
- * allocation, no clock, no threads. All state is in 4,096 words that the host lends with each call. include/example.c is a whole host.
- * It calls memcpy, memmove and memset, which the compiler's back end puts in, and nothing else: a freestanding host supplies these three.
+ * For C99 and C++11 or later. Link libkofudile.a (x86-64, System V calls): dist/ has it ready, `make install` puts it beside this header, with kofudile.pc
+ * for pkg-config. It keeps nothing of its own: no globals, no allocation, no clock, no threads. All state is in 4,096 words that the host lends with
+ * each call. include/example.c is a whole host. It calls memcpy, memmove and memset, which the compiler's back end puts in, and nothing else: a
+ * freestanding host supplies these three.
+ *
+ * A file that includes this header links only with an archive of the same ABI: the linker else misses kofudile_abi_1.
  *
  * WHAT IS LENT, AND FOR HOW LONG
  *   words    the window: 4,096 of uint64_t, 32 KiB. The host owns them for as long as it likes, may copy, save and load them, and lends them to one
@@ -13,9 +16,11 @@
  *            first place on; places after them are as they were. Lent for the one call.
  *   lists    hashes, heights, keys, flags, alternates: read during the call only.
  * A list is a pointer and then its length, counted in elements. The library trusts the host in this alone:
- *   - a pointer is not null, also with length 0, and that many elements may be read (written: words, report). It is aligned as its type is: to 8 bytes,
- *     heights to 4;
+ *   - a pointer is not null, and that many elements may be read (written: words, report). It is aligned as its type is: to 8 bytes, heights to 4. In
+ *     kofudile_mark_requested and kofudile_confirm_prefix_probe the pointer of a list of length 0 is not looked at, and may be null;
  *   - what is lent for writing overlaps no other argument, and no other thread touches it during the call. Several threads may query one window;
+ *   - nobody else writes what is lent during the call, another process or a device neither: the words are checked when a call begins and relied on until
+ *     it ends. A window in shared memory needs a lock that all its writers take;
  *   - a bool is 0 or 1.
  * Everything else is checked: any length, any words, any numbers give an answer and never undefined behaviour.
  *
@@ -25,14 +30,24 @@
  *   A request's list is looked through for hashes listed twice before its length is: one that is too long is refused in a time that grows with the square
  *   of its length (64,000 hashes: 2.6 s). A host whose lists come from elsewhere holds them to KOFUDILE_PLACES first.
  *
- * SAVING A WINDOW
- *   The words hold clocks, so save with them where the clock started. A clock that starts again from 0 is before the last accepted one, and every call
- *   and query that takes a clock is refused by 4 until it has caught up.
+ * CLOCKS, AND SAVING A WINDOW
+ *   The words hold the last accepted clock, and nothing but an opening sets it back. A clock far ahead, accepted once, stays: every call and query that takes an
+ *   earlier one is refused by 4 from then on. So hand in a monotonic clock, not the time of day.
+ *   With saved words save where the clock started: one that starts again from 0 is refused by 4 until it has caught up.
+ *
+ * A SEAT GIVEN TO ANOTHER CONNECTION
+ *   counts as the same peer come back. kofudile_retain_owned_by with flag 0 for the seat, before the new connection has it, drops the old one's entries, the time
+ *   since which it is waited for, its last body, its part in both races, the preference for it and an observed timeout. What the seat keeps after that:
+ *   - its key, which the opening alone sets, and with it the cooling of that key;
+ *   - a stall episode that names the seat: a pending block's body from the new connection ends it, and where that is asked for the same block before the
+ *     next look, its time runs from the old one's start.
  *
  * TERMS
  *   seat     0 to 255: the host's number for a connection. Key: 0 to 255, one for each seat, for the address behind it; cooling goes by key.
  *   clock    nanoseconds from any start that the host chooses, at most 2^62, never going back between accepted calls (a query's moves nothing). Durations are nanoseconds.
- *   hash     32 bytes as four words, the first byte highest: kofudile_hash_of.
+ *   hash     32 bytes as four words, in the order in which they come on the wire (inv, getdata, headers): the first byte is the highest of word a, the
+ *            last the lowest of word d: kofudile_hash_of. Explorers and node consoles show the bytes in reverse: the first byte on the wire is the last
+ *            pair of digits shown. "By rising hash" is by the bytes on the wire, from the first.
  *   entry    a block asked for: hash, owner seat, time of the request, height, estimate of its bytes.
  *   frontier the height from which the host looks for blocks to request next (kofudile_request_cursor).
  *   mean     of block bytes, moved by each body; an entry's estimate is the mean at its request.
@@ -55,58 +70,90 @@
 extern "C" {
 #endif
 
-#define KOFUDILE_WORDS 4096 /* length of `words` */
-#define KOFUDILE_PLACES 256 /* least length of `report`, and most entries pending */
-#define KOFUDILE_SEATS 256  /* length of `keys` and `flags` */
+#define KOFUDILE_VERSION_MAJOR 0
+#define KOFUDILE_VERSION_MINOR 1
+#define KOFUDILE_VERSION_PATCH 0
+#define KOFUDILE_ABI 1 /* another number for any change of a struct or of a function's arguments, answer or name */
 
-/* Why a call was refused, and who caused it. */
+#define KOFUDILE_WORDS 4096                  /* length of `words` */
+#define KOFUDILE_PLACES 256                  /* least length of `report`, and most entries pending */
+#define KOFUDILE_SEATS 256                   /* length of `keys` and `flags` */
+#define KOFUDILE_HASH_WORDS 4                /* words of a hash */
+#define KOFUDILE_SECOND UINT64_C(1000000000) /* nanoseconds */
+
+/* No pointer is null, and the answer is looked at; of functions over lists the first pointer alone, since an empty list has none. */
+#if defined(__GNUC__)
+#define KOFUDILE_API __attribute__((nonnull, warn_unused_result))
+#define KOFUDILE_LIST_API __attribute__((nonnull(1), warn_unused_result))
+#else
+#define KOFUDILE_API
+#define KOFUDILE_LIST_API
+#endif
+
+/* Kept by compiler and linker, though nothing reads it. */
+#if defined(__has_attribute)
+#if __has_attribute(retain)
+#define KOFUDILE_KEPT __attribute__((used, retain))
+#endif
+#endif
+#if !defined(KOFUDILE_KEPT) && defined(__GNUC__)
+#define KOFUDILE_KEPT __attribute__((used))
+#elif !defined(KOFUDILE_KEPT)
+#define KOFUDILE_KEPT
+#endif
+
+/* Answers 1. Whoever includes this header asks for it by name: 8 bytes of constant data for each file, and no code. */
+uint64_t kofudile_abi_1(void);
+KOFUDILE_KEPT static uint64_t (*const kofudile_abi_required)(void) = kofudile_abi_1;
+
+/* Why a call was refused, and who caused it: kofudile_refusal_text says it in words. */
 enum {
-    KOFUDILE_DONE = 0,
+    KOFUDILE_REFUSED_NONE = 0,
     /* The host, by memory it lends. */
-    KOFUDILE_WORDS_LENGTH = 1, /* words_len is not 4,096 */
-    KOFUDILE_NO_WINDOW = 2,    /* the words are not a window: never opened, or damaged since */
-    KOFUDILE_SHORT_REPORT = 3, /* report_len is under 256 */
+    KOFUDILE_REFUSED_WORDS_LENGTH = 1, /* words_len is not 4,096 */
+    KOFUDILE_REFUSED_NO_WINDOW = 2,    /* the words are not a window: never opened, or damaged since */
+    KOFUDILE_REFUSED_SHORT_REPORT = 3, /* report_len is under 256 */
     /* The host, by clock and settings. */
-    KOFUDILE_CLOCK = 4,    /* the clock is above 2^62, or before that of the last accepted call that took one (queries do not count) */
-    KOFUDILE_SETTINGS = 5, /* opening: a duration above 10^15, max_pending_bytes above 2^40, max_pending_blocks above 256, another count above 65,535 */
+    KOFUDILE_REFUSED_CLOCK = 4,    /* the clock is above 2^62, or before that of the last accepted call that took one (queries do not count) */
+    KOFUDILE_REFUSED_SETTINGS = 5, /* opening: a duration above 10^15, max_pending_bytes above 2^40, max_pending_blocks above 256, another count above 65,535 */
     /* Whoever names a peer. */
-    KOFUDILE_PEER = 6, /* a seat or key above 255, not 256 keys or flags, more than 256 alternates */
+    KOFUDILE_REFUSED_PEER = 6, /* a seat or key above 255, not 256 keys or flags, more than 256 alternates */
     /* Whoever builds a request. */
-    KOFUDILE_DUPLICATE = 7, /* a hash of the request is pending already, or is listed twice */
-    KOFUDILE_TOO_MANY = 8,  /* pending and listed entries together are more than 256 */
+    KOFUDILE_REFUSED_DUPLICATE = 7, /* a hash of the request is pending already, or is listed twice */
+    KOFUDILE_REFUSED_TOO_MANY = 8,  /* pending and listed entries together are more than 256 */
     /* A peer. */
-    KOFUDILE_BODY_SIZE = 9 /* a body above 4,294,967,295 bytes */
+    KOFUDILE_REFUSED_BODY_SIZE = 9 /* a body above 4,294,967,295 bytes */
 };
 
 /* Why an entry went. All but DELIVERED, RELEASED and RETIRED lower the frontier to the entry's height. */
 enum {
-    KOFUDILE_DELIVERED = 1,        /* its body came, from whomever */
-    KOFUDILE_OWNER_REJECTED = 2,   /* its owner's body was rejected */
-    KOFUDILE_RETRY = 3,            /* kofudile_requeue_for_retry */
-    KOFUDILE_RELEASED = 4,         /* kofudile_release_pending */
-    KOFUDILE_RETIRED = 5,          /* kofudile_retire_before */
-    KOFUDILE_OWNER_TIMED_OUT = 6,  /* sweep: its owner's time was out */
-    KOFUDILE_PASSED_OVER = 7,      /* sweep: its owner sent a later body, and the stall wait had passed */
-    KOFUDILE_SEAT_LOST = 8,        /* kofudile_retain_owned_by */
-    KOFUDILE_PREFIX_RACE_LOST = 9, /* its owner lost a prefix race */
-    KOFUDILE_HEDGE_LOST = 10       /* its owner lost the race for a cold front */
+    KOFUDILE_REASON_DELIVERED = 1,        /* its body came, from whomever */
+    KOFUDILE_REASON_OWNER_REJECTED = 2,   /* its owner's body was rejected */
+    KOFUDILE_REASON_RETRY = 3,            /* kofudile_requeue_for_retry */
+    KOFUDILE_REASON_RELEASED = 4,         /* kofudile_release_pending */
+    KOFUDILE_REASON_RETIRED = 5,          /* kofudile_retire_before */
+    KOFUDILE_REASON_OWNER_TIMED_OUT = 6,  /* sweep: its owner's time was out */
+    KOFUDILE_REASON_PASSED_OVER = 7,      /* sweep: its owner sent a later body, and the stall wait had passed */
+    KOFUDILE_REASON_SEAT_LOST = 8,        /* kofudile_retain_owned_by */
+    KOFUDILE_REASON_PREFIX_RACE_LOST = 9, /* its owner lost a prefix race */
+    KOFUDILE_REASON_HEDGE_LOST = 10       /* its owner lost the race for a cold front */
 };
 
 /* What kofudile_mark_owned_fetch says. */
 enum {
-    KOFUDILE_HELD = 0,       /* it was pending already: nothing changed but the clock */
-    KOFUDILE_STAGED = 1,     /* the host said that its body is staged: the same */
-    KOFUDILE_ASKED = 2,      /* it is pending now */
-    KOFUDILE_NO_CAPACITY = 3 /* the window, the owner or the staging area has no room: the same */
+    KOFUDILE_FETCH_HELD = 0,       /* it was pending already: nothing changed but the clock */
+    KOFUDILE_FETCH_STAGED = 1,     /* the host said that its body is staged: the same */
+    KOFUDILE_FETCH_ASKED = 2,      /* it is pending now */
+    KOFUDILE_FETCH_NO_CAPACITY = 3 /* the window, the owner or the staging area has no room: the same */
 };
 
 /* What kofudile_observe_blocked decides. */
 enum {
-    KOFUDILE_NOTHING = 0,
-    KOFUDILE_BLAME_STALLER = 1,         /* owner: it holds up the whole window; it cools from now on */
-    KOFUDILE_BLAME_PENDING_TIMEOUT = 2, /* owner: its time was out at a look, and at the next one too or its entry was swept between; it cools from now on */
-    KOFUDILE_EVICT_STAGED = 3,          /* height, hash, suppressed: applying is stuck on this staged block for so long: drop it */
-    KOFUDILE_HEDGE_COLD_FRONT = 4       /* owner, hash: ask another peer for this block too, then kofudile_confirm_cold_front_hedge */
+    KOFUDILE_DECISION_NONE = 0,
+    KOFUDILE_DECISION_BLAME_STALLER = 1,         /* owner: it holds up the whole window; it cools from now on */
+    KOFUDILE_DECISION_BLAME_PENDING_TIMEOUT = 2, /* owner: its time was out at a look, and at the next one too or its entry was swept between; it cools from now on */
+    KOFUDILE_DECISION_EVICT_STAGED = 3,          /* height, hash, suppressed: applying is stuck on this staged block for so long: drop it */
+    KOFUDILE_DECISION_HEDGE_COLD_FRONT = 4       /* owner, hash: ask another peer for this block too, then kofudile_confirm_cold_front_hedge */
 };
 
 typedef struct {
@@ -181,24 +228,31 @@ typedef struct {
  * Makes the words an empty window, whatever they held: frontier 1, mean 262,144. keys: the key of each seat, 256 of them. The clock only has to be
  * at most 2^62; later ones count from it. refused by 1, 4, 5, 6
  */
-uint64_t kofudile_open(uint64_t *words, size_t words_len, kofudile_settings settings, const uint64_t *keys, size_t keys_len, uint64_t clock);
+KOFUDILE_API uint64_t kofudile_open(uint64_t *words, size_t words_len, kofudile_settings settings, const uint64_t *keys, size_t keys_len, uint64_t clock);
 
 /* ---- Requests ---- */
 
 /*
- * The host sent this request to owner: its entries are pending from now. hashes: four words each, so that hashes_len is FOUR TIMES the number of hashes
- * (kofudile_mark_requested_of, below, takes hashes and their number); heights: one each; the request is the first min(hashes_len / 4, heights_len) of
- * them, the rest is not looked at, and it may be empty. next: the frontier is raised to it. The headrooms are those with the entries in.
- * value 1: there is room for more. A request may pass max_pending_blocks, not 256. refused by 1, 2, 4, 6, 7, 8
+ * The host sent this request to owner: its entries are pending from now, `count` hashes and as many heights; it may be empty. next: the frontier is raised
+ * to it. The headrooms are those with the entries in. value 1: there is room for more. A request may pass max_pending_blocks, not 256.
+ * refused by 1, 2, 4, 6, 7, 8
  */
-kofudile_number kofudile_mark_requested(uint64_t *words, size_t words_len, uint64_t owner, const uint64_t *hashes, size_t hashes_len,
-    const uint32_t *heights, size_t heights_len, uint32_t next, uint64_t byte_headroom, uint64_t count_headroom, uint64_t clock);
+KOFUDILE_LIST_API static inline kofudile_number kofudile_mark_requested(uint64_t *words, size_t words_len, uint64_t owner, const kofudile_hash *hashes,
+    const uint32_t *heights, size_t count, uint32_t next, uint64_t byte_headroom, uint64_t count_headroom, uint64_t clock);
 
 /*
- * The host would fetch one block from owner, out of turn; is_staged: whether its body is staged. value: KOFUDILE_HELD, _STAGED, _ASKED or
- * _NO_CAPACITY; only after ASKED is a message to be sent. refused by 1, 2, 4, 6
+ * The same of hashes as plain words, four each: hash_words_len is FOUR TIMES the number of hashes. The request is the first
+ * min(hash_words_len / 4, heights_len) entries; the rest is not looked at.
  */
-kofudile_number kofudile_mark_owned_fetch(uint64_t *words, size_t words_len, uint64_t owner, kofudile_hash hash, uint32_t height, bool is_staged,
+KOFUDILE_API kofudile_number kofudile_mark_requested_words(uint64_t *words, size_t words_len, uint64_t owner, const uint64_t *hash_words,
+    size_t hash_words_len, const uint32_t *heights, size_t heights_len, uint32_t next, uint64_t byte_headroom, uint64_t count_headroom,
+    uint64_t clock);
+
+/*
+ * The host would fetch one block from owner, out of turn; is_staged: whether its body is staged. value: one of KOFUDILE_FETCH_..;
+ * only after ASKED is a message to be sent. refused by 1, 2, 4, 6
+ */
+KOFUDILE_API kofudile_number kofudile_mark_owned_fetch(uint64_t *words, size_t words_len, uint64_t owner, kofudile_hash hash, uint32_t height, bool is_staged,
     uint64_t byte_headroom, uint64_t count_headroom, uint64_t clock);
 
 /* ---- Deliveries ---- */
@@ -207,147 +261,152 @@ kofudile_number kofudile_mark_owned_fetch(uint64_t *words, size_t words_len, uin
  * A body came: its entry goes (DELIVERED, first in the report), whoever sent it; the source, if there is one, is credited, which may decide a race and
  * let the losers' entries go (PREFIX_RACE_LOST, HEDGE_LOST, by rising hash); the mean moves. refused by 1, 2, 3, 4, 6, 9
  */
-kofudile_received kofudile_mark_received_from(uint64_t *words, size_t words_len, kofudile_release *report, size_t report_len,
+KOFUDILE_API kofudile_received kofudile_mark_received_from(uint64_t *words, size_t words_len, kofudile_release *report, size_t report_len,
     kofudile_hash hash, uint64_t bytes, bool has_source, uint64_t source, uint64_t clock);
 
 /* Credits the source alone, as above: the entry and the mean stay. height: where it was pending, if it was. refused by 1, 2, 3, 4, 6 */
-kofudile_gone kofudile_credit_delivery_from(uint64_t *words, size_t words_len, kofudile_release *report, size_t report_len,
+KOFUDILE_API kofudile_gone kofudile_credit_delivery_from(uint64_t *words, size_t words_len, kofudile_release *report, size_t report_len,
     kofudile_hash hash, uint64_t source, bool has_height, uint32_t height, uint64_t clock);
 
 /* The source sent what was there already: an observation of it and this hash is dropped. refused by 1, 2, 6 */
-uint64_t kofudile_credit_duplicate_delivery(uint64_t *words, size_t words_len, kofudile_hash hash, uint64_t source);
+KOFUDILE_API uint64_t kofudile_credit_duplicate_delivery(uint64_t *words, size_t words_len, kofudile_hash hash, uint64_t source);
 
 /* A body was no good: if the source owned the entry, the entry goes (OWNER_REJECTED). refused by 1, 2, 3, 4, 6 */
-kofudile_rejected kofudile_reject_delivery(uint64_t *words, size_t words_len, kofudile_release *report, size_t report_len,
+KOFUDILE_API kofudile_rejected kofudile_reject_delivery(uint64_t *words, size_t words_len, kofudile_release *report, size_t report_len,
     kofudile_hash hash, bool has_source, uint64_t source, uint64_t clock);
 
 /* ---- Letting go ---- */
 
 /* The sweep: entries of owners whose time is out, and entries passed over, go (OWNER_TIMED_OUT, PASSED_OVER, by rising hash). refused by 1, 2, 3, 4 */
-kofudile_gone kofudile_expire_pending(uint64_t *words, size_t words_len, kofudile_release *report, size_t report_len, uint64_t clock);
+KOFUDILE_API kofudile_gone kofudile_expire_pending(uint64_t *words, size_t words_len, kofudile_release *report, size_t report_len, uint64_t clock);
 
 /* The block is to be asked again: its entry, if any, goes (RETRY); the frontier is lowered to height too, entry or none. refused by 1, 2, 3, 4 */
-kofudile_gone kofudile_requeue_for_retry(uint64_t *words, size_t words_len, kofudile_release *report, size_t report_len,
+KOFUDILE_API kofudile_gone kofudile_requeue_for_retry(uint64_t *words, size_t words_len, kofudile_release *report, size_t report_len,
     kofudile_hash hash, bool has_height, uint32_t height, uint64_t clock);
 
 /* The block is no longer wanted: its entry, if any, goes (RELEASED), the frontier stays. refused by 1, 2, 3, 4 */
-kofudile_gone kofudile_release_pending(uint64_t *words, size_t words_len, kofudile_release *report, size_t report_len,
+KOFUDILE_API kofudile_gone kofudile_release_pending(uint64_t *words, size_t words_len, kofudile_release *report, size_t report_len,
     kofudile_hash hash, uint64_t clock);
 
 /* Every entry below height goes (RETIRED, by rising hash), the frontier stays. refused by 1, 2, 3, 4 */
-kofudile_gone kofudile_retire_before(uint64_t *words, size_t words_len, kofudile_release *report, size_t report_len,
+KOFUDILE_API kofudile_gone kofudile_retire_before(uint64_t *words, size_t words_len, kofudile_release *report, size_t report_len,
     uint32_t height, uint64_t clock);
 
 /* Seats whose flag is 0 are gone: their entries go (SEAT_LOST, by rising hash) and races forget them. 256 flags. refused by 1, 2, 3, 6 */
-kofudile_gone kofudile_retain_owned_by(uint64_t *words, size_t words_len, kofudile_release *report, size_t report_len,
+KOFUDILE_API kofudile_gone kofudile_retain_owned_by(uint64_t *words, size_t words_len, kofudile_release *report, size_t report_len,
     const uint64_t *flags, size_t flags_len);
 
 /* ---- Peers and races ---- */
 
 /* The source's key cools from now on: see kofudile_peer_in_staller_cooldown. refused by 1, 2, 4, 6 */
-uint64_t kofudile_mark_peer_unresponsive(uint64_t *words, size_t words_len, uint64_t source, uint64_t clock);
+KOFUDILE_API uint64_t kofudile_mark_peer_unresponsive(uint64_t *words, size_t words_len, uint64_t source, uint64_t clock);
 
 /*
- * The host asked the alternates too for the blocks of kofudile_prefix_probe_plan: the race begins. given: the plan's hashes, four words each, so that
- * given_len is FOUR TIMES their number (kofudile_confirm_prefix_probe_of, below, takes hashes and their number). If owner and hashes are not those of the
- * plan as it is now, or there is no alternate, nothing changes but the clock, and the answer is 0 all the same:
+ * The host asked the alternates too for the blocks of kofudile_prefix_probe_plan: the race begins. hashes: the plan's, `count` of them. If owner and hashes
+ * are not those of the plan as it is now, or there is no alternate, nothing changes but the clock, and the answer is 0 all the same:
  * kofudile_active_prefix_probe_started_at says whether the race began. refused by 1, 2, 4, 6
  */
-uint64_t kofudile_confirm_prefix_probe(uint64_t *words, size_t words_len, uint64_t owner, const uint64_t *given, size_t given_len,
-    const uint64_t *alternates, size_t alternates_len, uint64_t clock);
+KOFUDILE_LIST_API static inline uint64_t kofudile_confirm_prefix_probe(uint64_t *words, size_t words_len, uint64_t owner, const kofudile_hash *hashes,
+    size_t count, const uint64_t *alternates, size_t alternates_len, uint64_t clock);
+
+/* The same of hashes as plain words, four each: hash_words_len is FOUR TIMES the number of hashes. */
+KOFUDILE_API uint64_t kofudile_confirm_prefix_probe_words(uint64_t *words, size_t words_len, uint64_t owner, const uint64_t *hash_words,
+    size_t hash_words_len, const uint64_t *alternates, size_t alternates_len, uint64_t clock);
 
 /*
- * The host asked the alternate too for the block of KOFUDILE_HEDGE_COLD_FRONT. Does nothing if the window waits for another, or hedged two fronts already,
+ * The host asked the alternate too for the block of KOFUDILE_DECISION_HEDGE_COLD_FRONT. Does nothing if the window waits for another, or hedged two fronts already,
  * and answers 0 all the same: kofudile_hedge_offered of alternate and hash says whether the race began. refused by 1, 2, 6
  */
-uint64_t kofudile_confirm_cold_front_hedge(uint64_t *words, size_t words_len, uint64_t owner, uint64_t alternate, kofudile_hash hash);
+KOFUDILE_API uint64_t kofudile_confirm_cold_front_hedge(uint64_t *words, size_t words_len, uint64_t owner, uint64_t alternate, kofudile_hash hash);
 
 /*
  * The look at a blocked window, to be made again and again: what to do. next: the height to be applied next, if known. frontier: the hash staged at
  * that height, if any (the apply side's frontier, not the window's). busy: applying is at work. staged: how many blocks are staged. highest: the
  * greatest height of a staged hash that the tree knows. refused by 1, 2, 4
  */
-kofudile_blocked kofudile_observe_blocked(uint64_t *words, size_t words_len, bool has_next, uint32_t next,
+KOFUDILE_API kofudile_blocked kofudile_observe_blocked(uint64_t *words, size_t words_len, bool has_next, uint32_t next,
     bool has_frontier, kofudile_hash frontier, bool busy, uint64_t staged, bool has_highest, uint32_t highest, uint64_t clock);
 
 /*
  * So many peers may be asked. With min_peers_for_fanout of them fan-out engages, unless a prefix race is younger than stall_timeout_initial; with two
  * fewer it ends. While it is engaged no prefix race runs. refused by 1, 2, 4
  */
-uint64_t kofudile_set_fanout_eligible_peers(uint64_t *words, size_t words_len, uint64_t eligible, uint64_t clock);
+KOFUDILE_API uint64_t kofudile_set_fanout_eligible_peers(uint64_t *words, size_t words_len, uint64_t eligible, uint64_t clock);
 
 /* Forgets the winner of the last race. refused by 1, 2 */
-uint64_t kofudile_clear_preferred_peer(uint64_t *words, size_t words_len);
+KOFUDILE_API uint64_t kofudile_clear_preferred_peer(uint64_t *words, size_t words_len);
 
 /* ---- Queries: none writes anything. A clock is refused by 4 as in calls, a seat by 6. ---- */
 
 /* How many entries are pending, and the sum of their estimates. refused by 1, 2 */
-kofudile_number kofudile_pending_len(const uint64_t *words, size_t words_len);
-kofudile_number kofudile_pending_bytes(const uint64_t *words, size_t words_len);
+KOFUDILE_API kofudile_number kofudile_pending_len(const uint64_t *words, size_t words_len);
+KOFUDILE_API kofudile_number kofudile_pending_bytes(const uint64_t *words, size_t words_len);
 /* The most blocks, and the most bytes, that were pending at one time. refused by 1, 2 */
-kofudile_pair kofudile_pending_high_water(const uint64_t *words, size_t words_len);
+KOFUDILE_API kofudile_pair kofudile_pending_high_water(const uint64_t *words, size_t words_len);
 /* Whether the hash is pending; its owner. refused by 1, 2 */
-kofudile_number kofudile_contains_pending(const uint64_t *words, size_t words_len, kofudile_hash hash);
-kofudile_perhaps kofudile_pending_owner(const uint64_t *words, size_t words_len, kofudile_hash hash);
+KOFUDILE_API kofudile_number kofudile_contains_pending(const uint64_t *words, size_t words_len, kofudile_hash hash);
+KOFUDILE_API kofudile_perhaps kofudile_pending_owner(const uint64_t *words, size_t words_len, kofudile_hash hash);
 /* The frontier; the mean. refused by 1, 2 */
-kofudile_number kofudile_request_cursor(const uint64_t *words, size_t words_len);
-kofudile_number kofudile_ewma_block_bytes(const uint64_t *words, size_t words_len);
+KOFUDILE_API kofudile_number kofudile_request_cursor(const uint64_t *words, size_t words_len);
+KOFUDILE_API kofudile_number kofudile_ewma_block_bytes(const uint64_t *words, size_t words_len);
 
 /* Two settings. refused by 1, 2 */
-kofudile_number kofudile_max_pending_blocks(const uint64_t *words, size_t words_len);
-kofudile_number kofudile_min_peers_for_fanout(const uint64_t *words, size_t words_len);
+KOFUDILE_API kofudile_number kofudile_max_pending_blocks(const uint64_t *words, size_t words_len);
+KOFUDILE_API kofudile_number kofudile_min_peers_for_fanout(const uint64_t *words, size_t words_len);
 /* Whether fan-out is engaged; how many entries one peer may own now. refused by 1, 2 */
-kofudile_number kofudile_fanout_active(const uint64_t *words, size_t words_len);
-kofudile_number kofudile_effective_peer_inflight(const uint64_t *words, size_t words_len);
+KOFUDILE_API kofudile_number kofudile_fanout_active(const uint64_t *words, size_t words_len);
+KOFUDILE_API kofudile_number kofudile_effective_peer_inflight(const uint64_t *words, size_t words_len);
 /* Whether there is room for one more block. refused by 1, 2 */
-kofudile_number kofudile_has_request_capacity(const uint64_t *words, size_t words_len, uint64_t byte_headroom, uint64_t count_headroom);
+KOFUDILE_API kofudile_number kofudile_has_request_capacity(const uint64_t *words, size_t words_len, uint64_t byte_headroom, uint64_t count_headroom);
 /* How many blocks the seat may be asked for, and how many bytes there is room for; absent where it is none. refused by 1, 2, 6 */
-kofudile_perhaps_pair kofudile_compute_request_capacity(const uint64_t *words, size_t words_len, uint64_t seat, uint64_t byte_headroom,
+KOFUDILE_API kofudile_perhaps_pair kofudile_compute_request_capacity(const uint64_t *words, size_t words_len, uint64_t seat, uint64_t byte_headroom,
     uint64_t count_headroom);
 
 /* How many entries the seat owns; whether it owns any; since when it is waited for. refused by 1, 2, 6 */
-kofudile_number kofudile_pending_count_for(const uint64_t *words, size_t words_len, uint64_t seat);
-kofudile_number kofudile_is_downloading(const uint64_t *words, size_t words_len, uint64_t seat);
-kofudile_perhaps kofudile_owner_queue_start(const uint64_t *words, size_t words_len, uint64_t seat);
+KOFUDILE_API kofudile_number kofudile_pending_count_for(const uint64_t *words, size_t words_len, uint64_t seat);
+KOFUDILE_API kofudile_number kofudile_is_downloading(const uint64_t *words, size_t words_len, uint64_t seat);
+KOFUDILE_API kofudile_perhaps kofudile_owner_queue_start(const uint64_t *words, size_t words_len, uint64_t seat);
 /* How many seats own entries; how long an owner may take with that many. refused by 1, 2 */
-kofudile_number kofudile_active_downloading_peers(const uint64_t *words, size_t words_len);
-kofudile_number kofudile_effective_owner_timeout(const uint64_t *words, size_t words_len);
+KOFUDILE_API kofudile_number kofudile_active_downloading_peers(const uint64_t *words, size_t words_len);
+KOFUDILE_API kofudile_number kofudile_effective_owner_timeout(const uint64_t *words, size_t words_len);
 /* Whether the seat's time is out; whether its key cools. refused by 1, 2, 4, 6 */
-kofudile_number kofudile_peer_has_expired_pending(const uint64_t *words, size_t words_len, uint64_t seat, uint64_t clock);
-kofudile_number kofudile_peer_in_staller_cooldown(const uint64_t *words, size_t words_len, uint64_t seat, uint64_t clock);
+KOFUDILE_API kofudile_number kofudile_peer_has_expired_pending(const uint64_t *words, size_t words_len, uint64_t seat, uint64_t clock);
+KOFUDILE_API kofudile_number kofudile_peer_in_staller_cooldown(const uint64_t *words, size_t words_len, uint64_t seat, uint64_t clock);
 /* The forecast: blocks and bytes of owners whose time is out. A sweep at that clock lets go these at least. refused by 1, 2, 4 */
-kofudile_pair kofudile_expired_pending_capacity(const uint64_t *words, size_t words_len, uint64_t clock);
+KOFUDILE_API kofudile_pair kofudile_expired_pending_capacity(const uint64_t *words, size_t words_len, uint64_t clock);
 
 /* The key that holds up the window, and since when. refused by 1, 2 */
-kofudile_perhaps_pair kofudile_stalling_peer(const uint64_t *words, size_t words_len);
+KOFUDILE_API kofudile_perhaps_pair kofudile_stalling_peer(const uint64_t *words, size_t words_len);
 /* The stall wait, its floor, and the mean time in ms between advances of the front. refused by 1, 2 */
-kofudile_number kofudile_stall_timeout(const uint64_t *words, size_t words_len);
-kofudile_number kofudile_stall_decay_floor(const uint64_t *words, size_t words_len);
-kofudile_perhaps kofudile_front_interval_ewma_ms(const uint64_t *words, size_t words_len);
+KOFUDILE_API kofudile_number kofudile_stall_timeout(const uint64_t *words, size_t words_len);
+KOFUDILE_API kofudile_number kofudile_stall_decay_floor(const uint64_t *words, size_t words_len);
+KOFUDILE_API kofudile_perhaps kofudile_front_interval_ewma_ms(const uint64_t *words, size_t words_len);
 
 /* The seat that won the last race. refused by 1, 2 */
-kofudile_perhaps kofudile_preferred_peer(const uint64_t *words, size_t words_len);
+KOFUDILE_API kofudile_perhaps kofudile_preferred_peer(const uint64_t *words, size_t words_len);
 /* A race that is worth while now. refused by 1, 2 */
-kofudile_plan kofudile_prefix_probe_plan(const uint64_t *words, size_t words_len);
+KOFUDILE_API kofudile_plan kofudile_prefix_probe_plan(const uint64_t *words, size_t words_len);
 /* When the running prefix race began. refused by 1, 2 */
-kofudile_perhaps kofudile_active_prefix_probe_started_at(const uint64_t *words, size_t words_len);
+KOFUDILE_API kofudile_perhaps kofudile_active_prefix_probe_started_at(const uint64_t *words, size_t words_len);
 /* Whether the seat races for this hash in the prefix race; as alternate in the race for a cold front. refused by 1, 2, 6 */
-kofudile_number kofudile_probe_offered(const uint64_t *words, size_t words_len, uint64_t seat, kofudile_hash hash);
-kofudile_number kofudile_hedge_offered(const uint64_t *words, size_t words_len, uint64_t seat, kofudile_hash hash);
+KOFUDILE_API kofudile_number kofudile_probe_offered(const uint64_t *words, size_t words_len, uint64_t seat, kofudile_hash hash);
+KOFUDILE_API kofudile_number kofudile_hedge_offered(const uint64_t *words, size_t words_len, uint64_t seat, kofudile_hash hash);
 
-/* ---- For the host's convenience ---- */
+/* ---- Functions of this header ---- */
 
-/* kofudile_mark_requested of `count` hashes, and as many heights. */
-static inline kofudile_number kofudile_mark_requested_of(uint64_t *words, size_t words_len, uint64_t owner, const kofudile_hash *hashes,
+KOFUDILE_LIST_API static inline kofudile_number kofudile_mark_requested(uint64_t *words, size_t words_len, uint64_t owner, const kofudile_hash *hashes,
     const uint32_t *heights, size_t count, uint32_t next, uint64_t byte_headroom, uint64_t count_headroom, uint64_t clock) {
-    return kofudile_mark_requested(
-        words, words_len, owner, &hashes->a, 4 * count, heights, count, next, byte_headroom, count_headroom, clock);
+    const uint64_t no_word = 0;
+    const uint32_t no_height = 0;
+    return kofudile_mark_requested_words(words, words_len, owner, count ? &hashes->a : &no_word, KOFUDILE_HASH_WORDS * count,
+        count ? heights : &no_height, count, next, byte_headroom, count_headroom, clock);
 }
 
-/* kofudile_confirm_prefix_probe of `count` hashes: the plan's, as many as its count. */
-static inline uint64_t kofudile_confirm_prefix_probe_of(uint64_t *words, size_t words_len, uint64_t owner, const kofudile_hash *given, size_t count,
-    const uint64_t *alternates, size_t alternates_len, uint64_t clock) {
-    return kofudile_confirm_prefix_probe(words, words_len, owner, &given->a, 4 * count, alternates, alternates_len, clock);
+KOFUDILE_LIST_API static inline uint64_t kofudile_confirm_prefix_probe(uint64_t *words, size_t words_len, uint64_t owner, const kofudile_hash *hashes,
+    size_t count, const uint64_t *alternates, size_t alternates_len, uint64_t clock) {
+    const uint64_t no_word = 0;
+    return kofudile_confirm_prefix_probe_words(words, words_len, owner, count ? &hashes->a : &no_word, KOFUDILE_HASH_WORDS * count,
+        alternates_len ? alternates : &no_word, alternates_len, clock);
 }
 
 static inline uint64_t kofudile_word_of(const uint8_t *bytes) {
@@ -356,7 +415,7 @@ static inline uint64_t kofudile_word_of(const uint8_t *bytes) {
     return word;
 }
 
-/* 32 bytes as a hash. */
+/* 32 bytes, as they come on the wire, as a hash. */
 static inline kofudile_hash kofudile_hash_of(const uint8_t *bytes) {
     kofudile_hash hash;
     hash.a = kofudile_word_of(bytes);
@@ -366,13 +425,74 @@ static inline kofudile_hash kofudile_hash_of(const uint8_t *bytes) {
     return hash;
 }
 
+/* The original's budget of this name. block_spacing: the network's time between blocks, 600 * KOFUDILE_SECOND for Bitcoin. */
+static inline kofudile_settings kofudile_default_sync_budget(uint64_t block_spacing) {
+    kofudile_settings settings;
+    settings.max_pending_blocks = 256;
+    settings.max_pending_bytes = 256 * UINT64_C(2097152);
+    settings.max_received_blocks = 256;
+    settings.max_peer_inflight = 256;
+    settings.fanout_peer_inflight = 16;
+    settings.min_peers_for_fanout = 8;
+    settings.getdata_batch_limit = 256;
+    settings.block_spacing = block_spacing;
+    settings.received_timeout = 60 * KOFUDILE_SECOND;
+    settings.stall_timeout_initial = 2 * KOFUDILE_SECOND;
+    settings.stall_timeout_max = 64 * KOFUDILE_SECOND;
+    settings.staller_cooldown = 64 * KOFUDILE_SECOND;
+    return settings;
+}
+
+/* The original's budget of this name: fan-out from two peers on, at least eight blocks each. */
+static inline kofudile_settings kofudile_fast_sync_budget(uint64_t block_spacing) {
+    kofudile_settings settings = kofudile_default_sync_budget(block_spacing);
+    settings.fanout_peer_inflight = 8;
+    settings.min_peers_for_fanout = 2;
+    return settings;
+}
+
+/* Why a call was refused, for a log. */
+static inline const char *kofudile_refusal_text(uint64_t refused) {
+    switch (refused) {
+    case KOFUDILE_REFUSED_NONE: return "not refused";
+    case KOFUDILE_REFUSED_WORDS_LENGTH: return "words_len is not 4096";
+    case KOFUDILE_REFUSED_NO_WINDOW: return "the words are not a window";
+    case KOFUDILE_REFUSED_SHORT_REPORT: return "the report has under 256 places";
+    case KOFUDILE_REFUSED_CLOCK: return "the clock is above 2^62 or before the last accepted one";
+    case KOFUDILE_REFUSED_SETTINGS: return "a setting is out of range";
+    case KOFUDILE_REFUSED_PEER: return "a seat or key is above 255, or a list of them has the wrong length";
+    case KOFUDILE_REFUSED_DUPLICATE: return "a hash of the request is pending already or listed twice";
+    case KOFUDILE_REFUSED_TOO_MANY: return "more than 256 entries would be pending";
+    case KOFUDILE_REFUSED_BODY_SIZE: return "the body is above 4294967295 bytes";
+    default: return "not a refusal of this library";
+    }
+}
+
+/* ---- Sizes: fields of 64 bits without gaps, as the library has them ---- */
+
+#if defined(__cplusplus)
+#define KOFUDILE_SIZE(type, bytes) static_assert(sizeof(type) == (bytes), "size of " #type)
+#elif defined(__STDC_VERSION__) && __STDC_VERSION__ >= 201112L
+#define KOFUDILE_SIZE(type, bytes) _Static_assert(sizeof(type) == (bytes), "size of " #type)
+#else
+#define KOFUDILE_SIZE(type, bytes) typedef char type##_size[sizeof(type) == (bytes) ? 1 : -1]
+#endif
+KOFUDILE_SIZE(kofudile_hash, 32);
+KOFUDILE_SIZE(kofudile_entry, 64);
+KOFUDILE_SIZE(kofudile_release, 72);
+KOFUDILE_SIZE(kofudile_settings, 96);
+KOFUDILE_SIZE(kofudile_number, 16);
+KOFUDILE_SIZE(kofudile_pair, 24);
+KOFUDILE_SIZE(kofudile_perhaps, 24);
+KOFUDILE_SIZE(kofudile_perhaps_pair, 32);
+KOFUDILE_SIZE(kofudile_gone, 16);
+KOFUDILE_SIZE(kofudile_received, 32);
+KOFUDILE_SIZE(kofudile_rejected, 24);
+KOFUDILE_SIZE(kofudile_blocked, 72);
+KOFUDILE_SIZE(kofudile_plan, 296);
+
 #ifdef __cplusplus
 }
-static_assert(sizeof(kofudile_hash) == 32 && sizeof(kofudile_entry) == 64 && sizeof(kofudile_release) == 72 && sizeof(kofudile_settings) == 96,
-    "structs without gaps");
-#else
-_Static_assert(sizeof(kofudile_hash) == 32 && sizeof(kofudile_entry) == 64 && sizeof(kofudile_release) == 72 && sizeof(kofudile_settings) == 96,
-    "structs without gaps");
 #endif
 
 #endif

@@ -1,5 +1,10 @@
-/* The header's functions over lists of hashes pass four words for each hash; then a won race, the deepest call. Ends with 0, or prints a line that fails. */
+/*
+ * The header's own functions: lists of hashes pass four words for each hash, and an empty one's null pointer is not handed on; a won race, the deepest
+ * call; the original's budgets; the order of a hash's bytes; the texts of refusals. And what the header says of clocks and seats. Ends with 0, or prints
+ * a line that fails.
+ */
 #include <stdio.h>
+#include <string.h>
 
 #include "kofudile.h"
 
@@ -8,6 +13,84 @@
 
 static uint64_t words[KOFUDILE_WORDS];
 static kofudile_release report[KOFUDILE_PLACES];
+
+/* Empty lists without a pointer: a request that raises the frontier, a confirmation of nothing. */
+static int empty_lists(void) {
+    HOLDS(kofudile_mark_requested(words, KOFUDILE_WORDS, 1, NULL, NULL, 0, 7, UINT64_MAX, UINT64_MAX, 0).refused == 0);
+    HOLDS(kofudile_request_cursor(words, KOFUDILE_WORDS).value == 7);
+    HOLDS(kofudile_confirm_prefix_probe(words, KOFUDILE_WORDS, 1, NULL, 0, NULL, 0, 0) == 0);
+    HOLDS(kofudile_pending_len(words, KOFUDILE_WORDS).value == 5);
+    return 0;
+}
+
+/* Each budget opens a window; they differ in the two numbers of fan-out. */
+static int budgets(const uint64_t *keys) {
+    kofudile_settings usual = kofudile_default_sync_budget(600 * KOFUDILE_SECOND);
+    kofudile_settings fast = kofudile_fast_sync_budget(600 * KOFUDILE_SECOND);
+    HOLDS(usual.max_pending_bytes == 536870912 && usual.block_spacing == UINT64_C(600000000000));
+    HOLDS(usual.fanout_peer_inflight == 16 && usual.min_peers_for_fanout == 8);
+    HOLDS(fast.fanout_peer_inflight == 8 && fast.min_peers_for_fanout == 2);
+    fast.fanout_peer_inflight = 16;
+    fast.min_peers_for_fanout = 8;
+    HOLDS(memcmp(&usual, &fast, sizeof usual) == 0);
+    HOLDS(kofudile_open(words, KOFUDILE_WORDS, usual, keys, KOFUDILE_SEATS, 0) == 0);
+    HOLDS(kofudile_effective_owner_timeout(words, KOFUDILE_WORDS).value == 600 * KOFUDILE_SECOND);
+    HOLDS(kofudile_stall_timeout(words, KOFUDILE_WORDS).value == 2 * KOFUDILE_SECOND);
+    return 0;
+}
+
+static int bytes_and_texts(void) {
+    uint8_t bytes[32];
+    for (int i = 0; i < 32; i++) bytes[i] = (uint8_t)(i + 1);
+    kofudile_hash hash = kofudile_hash_of(bytes);
+    HOLDS(hash.a == UINT64_C(0x0102030405060708) && hash.b == UINT64_C(0x090a0b0c0d0e0f10));
+    HOLDS(hash.c == UINT64_C(0x1112131415161718) && hash.d == UINT64_C(0x191a1b1c1d1e1f20));
+    for (uint64_t i = 0; i <= KOFUDILE_REFUSED_BODY_SIZE; i++)
+        for (uint64_t j = i + 1; j <= KOFUDILE_REFUSED_BODY_SIZE + 1; j++) HOLDS(strcmp(kofudile_refusal_text(i), kofudile_refusal_text(j)) != 0);
+    HOLDS(strcmp(kofudile_refusal_text(KOFUDILE_REFUSED_BODY_SIZE + 1), kofudile_refusal_text(UINT64_MAX)) == 0);
+    HOLDS(kofudile_abi_1() == KOFUDILE_ABI);
+    return 0;
+}
+
+static uint64_t ask(kofudile_hash hash, uint64_t clock) {
+    const uint32_t height = 1;
+    return kofudile_mark_requested(words, KOFUDILE_WORDS, 1, &hash, &height, 1, 2, UINT64_MAX, UINT64_MAX, clock).refused;
+}
+
+static kofudile_blocked look(uint64_t clock) {
+    const kofudile_hash none = {0, 0, 0, 0};
+    return kofudile_observe_blocked(words, KOFUDILE_WORDS, true, 1, false, none, false, 128, true, 2, clock);
+}
+
+/* After its entries went, seat 1 keeps the stall episode, and then its key's cooling. */
+static int reused_seat(const uint64_t *keys) {
+    uint64_t flags[KOFUDILE_SEATS] = {0};
+    const kofudile_hash hash = {1, 2, 3, 4};
+    HOLDS(kofudile_open(words, KOFUDILE_WORDS, kofudile_default_sync_budget(600 * KOFUDILE_SECOND), keys, KOFUDILE_SEATS, 0) == 0);
+    HOLDS(ask(hash, 0) == 0);
+    HOLDS(look(1).decision == KOFUDILE_DECISION_NONE);
+    HOLDS(kofudile_retain_owned_by(words, KOFUDILE_WORDS, report, KOFUDILE_PLACES, flags, KOFUDILE_SEATS).places == 1);
+    HOLDS(report[0].reason == KOFUDILE_REASON_SEAT_LOST);
+    HOLDS(kofudile_owner_queue_start(words, KOFUDILE_WORDS, 1).present == 0);
+    HOLDS(kofudile_stalling_peer(words, KOFUDILE_WORDS).present == 1);
+    HOLDS(ask(hash, 2 * KOFUDILE_SECOND) == 0);
+    kofudile_blocked blamed = look(2 * KOFUDILE_SECOND + 1);
+    HOLDS(blamed.decision == KOFUDILE_DECISION_BLAME_STALLER && blamed.owner == 1);
+    HOLDS(kofudile_retain_owned_by(words, KOFUDILE_WORDS, report, KOFUDILE_PLACES, flags, KOFUDILE_SEATS).places == 1);
+    HOLDS(kofudile_peer_in_staller_cooldown(words, KOFUDILE_WORDS, 1, 3 * KOFUDILE_SECOND).value == 1);
+    return 0;
+}
+
+/* A clock far ahead stays, until an opening. */
+static int far_clock(const uint64_t *keys) {
+    const uint64_t most = UINT64_C(1) << 62;
+    HOLDS(kofudile_expire_pending(words, KOFUDILE_WORDS, report, KOFUDILE_PLACES, most).refused == KOFUDILE_REFUSED_NONE);
+    HOLDS(kofudile_expire_pending(words, KOFUDILE_WORDS, report, KOFUDILE_PLACES, most - 1).refused == KOFUDILE_REFUSED_CLOCK);
+    HOLDS(kofudile_expired_pending_capacity(words, KOFUDILE_WORDS, 4 * KOFUDILE_SECOND).refused == KOFUDILE_REFUSED_CLOCK);
+    HOLDS(kofudile_open(words, KOFUDILE_WORDS, kofudile_default_sync_budget(0), keys, KOFUDILE_SEATS, 0) == KOFUDILE_REFUSED_NONE);
+    HOLDS(kofudile_expire_pending(words, KOFUDILE_WORDS, report, KOFUDILE_PLACES, 0).refused == KOFUDILE_REFUSED_NONE);
+    return 0;
+}
 
 int main(void) {
     uint64_t keys[KOFUDILE_SEATS] = {0};
@@ -21,22 +104,23 @@ int main(void) {
     }
     uint64_t alternate = 2;
     HOLDS(kofudile_open(words, KOFUDILE_WORDS, settings, keys, KOFUDILE_SEATS, 0) == 0);
-    HOLDS(kofudile_mark_requested_of(words, KOFUDILE_WORDS, 1, hashes, heights, 5, 6, UINT64_MAX, UINT64_MAX, 0).refused == 0);
+    HOLDS(kofudile_mark_requested(words, KOFUDILE_WORDS, 1, hashes, heights, 5, 6, UINT64_MAX, UINT64_MAX, 0).refused == 0);
     HOLDS(kofudile_pending_len(words, KOFUDILE_WORDS).value == 5);
     HOLDS(kofudile_contains_pending(words, KOFUDILE_WORDS, hashes[4]).value == 1);
+    if (empty_lists() != 0) return 1;
 
     kofudile_plan plan = kofudile_prefix_probe_plan(words, KOFUDILE_WORDS);
     HOLDS(plan.refused == 0 && plan.present == 1 && plan.count == 5 && plan.hashes[4].d == hashes[4].d);
     HOLDS(kofudile_prefix_probe_plan(words, KOFUDILE_WORDS - 1).refused == 1);
-    HOLDS(kofudile_confirm_prefix_probe_of(words, KOFUDILE_WORDS, plan.owner, plan.hashes, 4, &alternate, 1, 0) == 0);
+    HOLDS(kofudile_confirm_prefix_probe(words, KOFUDILE_WORDS, plan.owner, plan.hashes, 4, &alternate, 1, 0) == 0);
     HOLDS(kofudile_active_prefix_probe_started_at(words, KOFUDILE_WORDS).present == 0);
-    HOLDS(kofudile_confirm_prefix_probe_of(words, KOFUDILE_WORDS, plan.owner, plan.hashes, plan.count, &alternate, 1, 0) == 0);
+    HOLDS(kofudile_confirm_prefix_probe(words, KOFUDILE_WORDS, plan.owner, plan.hashes, plan.count, &alternate, 1, 0) == 0);
     HOLDS(kofudile_active_prefix_probe_started_at(words, KOFUDILE_WORDS).present == 1);
 
     kofudile_received body = {0, 0, 0, 0};
     for (int i = 0; i < 4; i++)
         body = kofudile_mark_received_from(words, KOFUDILE_WORDS, report, KOFUDILE_PLACES, hashes[i], 80, true, alternate, 0);
     HOLDS(body.refused == 0 && body.places == 2);
-    HOLDS(report[0].reason == KOFUDILE_DELIVERED && report[1].reason == KOFUDILE_PREFIX_RACE_LOST);
-    return 0;
+    HOLDS(report[0].reason == KOFUDILE_REASON_DELIVERED && report[1].reason == KOFUDILE_REASON_PREFIX_RACE_LOST);
+    return budgets(keys) || bytes_and_texts() || reused_seat(keys) || far_clock(keys);
 }

@@ -95,7 +95,7 @@ impl DownloadWindow {
         let (w, n) = self.lend();
         // SAFETY: the lists are the window's own, apart from the words, and live through the call.
         let said = unsafe {
-            ffi::kofudile_mark_requested(
+            ffi::kofudile_mark_requested_words(
                 w,
                 n,
                 owner.into(),
@@ -314,7 +314,7 @@ impl DownloadWindow {
         let (w, n) = self.lend();
         // SAFETY: as in `new`; the lists live through the call.
         let refused = unsafe {
-            ffi::kofudile_confirm_prefix_probe(
+            ffi::kofudile_confirm_prefix_probe_words(
                 w,
                 n,
                 owner.into(),

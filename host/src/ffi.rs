@@ -111,13 +111,14 @@ pub type Lent = *const u64;
 pub type Report = *mut Release;
 
 unsafe extern "C" {
+    pub fn kofudile_abi_1() -> u64;
     pub fn kofudile_open(w: Words, n: usize, settings: Settings, keys: Lent, keys_len: usize, clock: u64) -> u64;
-    pub fn kofudile_mark_requested(
+    pub fn kofudile_mark_requested_words(
         w: Words,
         n: usize,
         owner: u64,
-        hashes: Lent,
-        hashes_len: usize,
+        hash_words: Lent,
+        hash_words_len: usize,
         heights: *const u32,
         heights_len: usize,
         next: u32,
@@ -184,12 +185,12 @@ unsafe extern "C" {
     pub fn kofudile_retire_before(w: Words, n: usize, r: Report, places: usize, height: u32, clock: u64) -> Gone;
     pub fn kofudile_retain_owned_by(w: Words, n: usize, r: Report, places: usize, flags: Lent, flags_len: usize) -> Gone;
     pub fn kofudile_mark_peer_unresponsive(w: Words, n: usize, source: u64, clock: u64) -> u64;
-    pub fn kofudile_confirm_prefix_probe(
+    pub fn kofudile_confirm_prefix_probe_words(
         w: Words,
         n: usize,
         owner: u64,
-        given: Lent,
-        given_len: usize,
+        hash_words: Lent,
+        hash_words_len: usize,
         alternates: Lent,
         alternates_len: usize,
         clock: u64,
@@ -248,3 +249,25 @@ unsafe extern "C" {
     pub fn kofudile_active_prefix_probe_started_at(w: Lent, n: usize) -> Perhaps;
     pub fn kofudile_prefix_probe_plan(w: Lent, n: usize) -> Plan;
 }
+
+/// What links must be of this ABI: the linker misses the name where it is not.
+#[used]
+static ABI_REQUIRED: unsafe extern "C" fn() -> u64 = kofudile_abi_1;
+
+/// Fields of 64 bits without gaps, as the library has them.
+const _: () = {
+    assert!(size_of::<Hash>() == 32);
+    assert!(size_of::<Entry>() == 64);
+    assert!(size_of::<Release>() == 72);
+    assert!(size_of::<Settings>() == 96);
+    assert!(size_of::<Number>() == 16);
+    assert!(size_of::<Pair>() == 24);
+    assert!(size_of::<Perhaps>() == 24);
+    assert!(size_of::<PerhapsPair>() == 32);
+    assert!(size_of::<Gone>() == 16);
+    assert!(size_of::<Received>() == 32);
+    assert!(size_of::<Rejected>() == 24);
+    assert!(size_of::<Blocked>() == 72);
+    assert!(size_of::<Plan>() == 40);
+    assert!(size_of::<Hashes>() == 256);
+};

@@ -48,7 +48,7 @@ type Report = *mut Release;
 #[rustfmt::skip]
 unsafe extern "C" {
     fn kofudile_open(w: Words, n: usize, settings: Settings, keys: Lent, keys_len: usize, clock: u64) -> u64;
-    fn kofudile_mark_requested(w: Words, n: usize, owner: u64, hashes: Lent, hashes_len: usize, heights: *const u32, heights_len: usize, next: u32, byte_headroom: u64, count_headroom: u64, clock: u64) -> Two;
+    fn kofudile_mark_requested_words(w: Words, n: usize, owner: u64, hash_words: Lent, hash_words_len: usize, heights: *const u32, heights_len: usize, next: u32, byte_headroom: u64, count_headroom: u64, clock: u64) -> Two;
     fn kofudile_mark_owned_fetch(w: Words, n: usize, owner: u64, hash: Hash, height: u32, is_staged: bool, byte_headroom: u64, count_headroom: u64, clock: u64) -> Two;
     fn kofudile_mark_received_from(w: Words, n: usize, r: Report, places: usize, hash: Hash, bytes: u64, has_source: bool, source: u64, clock: u64) -> Four;
     fn kofudile_reject_delivery(w: Words, n: usize, r: Report, places: usize, hash: Hash, has_source: bool, source: u64, clock: u64) -> Three;
@@ -162,7 +162,7 @@ impl Subject for Ours {
     fn mark_requested(&mut self, request: &Request, now: u64) -> u64 {
         let Request { owner, hashes, heights } = request;
         let (w, h, g) = (self.w(), hashes.as_ptr(), heights.as_ptr());
-        let said = unsafe { kofudile_mark_requested(w, N, *owner, h, hashes.len(), g, heights.len(), 0, FREE, FREE, now) };
+        let said = unsafe { kofudile_mark_requested_words(w, N, *owner, h, hashes.len(), g, heights.len(), 0, FREE, FREE, now) };
         accepted(said.refused);
         said.value
     }

@@ -127,13 +127,14 @@ type Lent = *const u64;
 type Report = *mut Release;
 
 unsafe extern "C" {
+    pub fn kofudile_abi_1() -> u64;
     pub fn kofudile_open(w: Words, n: usize, settings: Settings, keys: Lent, keys_len: usize, clock: u64) -> u64;
-    pub fn kofudile_mark_requested(
+    pub fn kofudile_mark_requested_words(
         w: Words,
         n: usize,
         owner: u64,
-        hashes: Lent,
-        hashes_len: usize,
+        hash_words: Lent,
+        hash_words_len: usize,
         heights: *const u32,
         heights_len: usize,
         next: u32,
@@ -200,12 +201,12 @@ unsafe extern "C" {
     pub fn kofudile_retire_before(w: Words, n: usize, r: Report, places: usize, height: u32, clock: u64) -> Gone;
     pub fn kofudile_retain_owned_by(w: Words, n: usize, r: Report, places: usize, flags: Lent, flags_len: usize) -> Gone;
     pub fn kofudile_mark_peer_unresponsive(w: Words, n: usize, source: u64, clock: u64) -> u64;
-    pub fn kofudile_confirm_prefix_probe(
+    pub fn kofudile_confirm_prefix_probe_words(
         w: Words,
         n: usize,
         owner: u64,
-        given: Lent,
-        given_len: usize,
+        hash_words: Lent,
+        hash_words_len: usize,
         alternates: Lent,
         alternates_len: usize,
         clock: u64,
@@ -264,3 +265,7 @@ unsafe extern "C" {
     pub fn kofudile_active_prefix_probe_started_at(w: Lent, n: usize) -> Perhaps;
     pub fn kofudile_prefix_probe_plan(w: Lent, n: usize) -> Plan;
 }
+
+/// What links must be of this ABI: the linker misses the name where it is not.
+#[used]
+static ABI_REQUIRED: unsafe extern "C" fn() -> u64 = kofudile_abi_1;

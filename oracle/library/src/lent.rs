@@ -85,7 +85,7 @@ impl Lent {
                 let (hash_list, height_list) = ((hashes.as_ptr(), hashes.len()), (heights.as_ptr(), heights.len()));
                 number(
                     unsafe {
-                        kofudile_mark_requested(
+                        kofudile_mark_requested_words(
                             w,
                             n,
                             *owner,
@@ -123,7 +123,7 @@ impl Lent {
             Call::ConfirmPrefixProbe { clock, owner, hashes, alternates } => {
                 let (w, n) = self.window();
                 let (given, others) = ((hashes.as_ptr(), hashes.len()), (alternates.as_ptr(), alternates.len()));
-                done(unsafe { kofudile_confirm_prefix_probe(w, n, *owner, given.0, given.1, others.0, others.1, *clock) })
+                done(unsafe { kofudile_confirm_prefix_probe_words(w, n, *owner, given.0, given.1, others.0, others.1, *clock) })
             }
             Call::ConfirmColdFrontHedge { owner, alternate, hash } => {
                 let (w, n) = self.window();

@@ -1,9 +1,9 @@
--- `kofudile::kofudile_mark_requested` meets its contract. Assumes nothing.
+-- `kofudile::kofudile_mark_requested_words` meets its contract. Assumes nothing.
 use mathlib.Core.Path.{ap, _∙_}
 use Rattle.flat.specs.Flat.{number-flat}
 use borrow.Author.Needs.{needs}
-use Rattle.kofudile.proofs.kofudile_mark_requested.Statement.{statement}
-use Rattle.kofudile.proofs.kofudile_mark_requested.Tie as tie
+use Rattle.kofudile.proofs.kofudile_mark_requested_words.Statement.{statement}
+use Rattle.kofudile.proofs.kofudile_mark_requested_words.Tie as tie
 
 mark-requested-requires : tie.Need-mark-requested-requires
 mark-requested-requires c κs = search needs
@@ -17,5 +17,5 @@ same-length c = search needs
 returns : tie.Need-returns
 returns c = (c .of-requested .ensures ∙ ap number-flat (c .before .before .before .mark-requested .ensures .0), c .before .before .before .mark-requested .ensures .1)
 
-pub kofudile-mark-requested-spec : {M : Type 1} → statement M
-kofudile-mark-requested-spec = tie.close (tie.spec mark-requested-requires of-requested-requires same-length returns)
+pub kofudile-mark-requested-words-spec : {M : Type 1} → statement M
+kofudile-mark-requested-words-spec = tie.close (tie.spec mark-requested-requires of-requested-requires same-length returns)

@@ -1,9 +1,9 @@
--- `kofudile::kofudile_confirm_prefix_probe` meets its contract. Assumes nothing.
+-- `kofudile::kofudile_confirm_prefix_probe_words` meets its contract. Assumes nothing.
 use mathlib.Core.Path.{ap, _∙_}
 use Rattle.flat.specs.Flat.{done-flat}
 use borrow.Author.Needs.{needs}
-use Rattle.kofudile.proofs.kofudile_confirm_prefix_probe.Statement.{statement}
-use Rattle.kofudile.proofs.kofudile_confirm_prefix_probe.Tie as tie
+use Rattle.kofudile.proofs.kofudile_confirm_prefix_probe_words.Statement.{statement}
+use Rattle.kofudile.proofs.kofudile_confirm_prefix_probe_words.Tie as tie
 
 confirm-prefix-probe-requires : tie.Need-confirm-prefix-probe-requires
 confirm-prefix-probe-requires c κs = search needs
@@ -17,5 +17,5 @@ same-length c = search needs
 returns : tie.Need-returns
 returns c = (c .of-accepted .ensures ∙ ap done-flat (c .before .before .before .confirm-prefix-probe .ensures .0), c .before .before .before .confirm-prefix-probe .ensures .1)
 
-pub kofudile-confirm-prefix-probe-spec : {M : Type 1} → statement M
-kofudile-confirm-prefix-probe-spec = tie.close (tie.spec confirm-prefix-probe-requires of-accepted-requires same-length returns)
+pub kofudile-confirm-prefix-probe-words-spec : {M : Type 1} → statement M
+kofudile-confirm-prefix-probe-words-spec = tie.close (tie.spec confirm-prefix-probe-requires of-accepted-requires same-length returns)
