@@ -1,7 +1,9 @@
 //! A made-up host catches up by 2,000 blocks from three peers, one of which falls silent. Time is made up too, so that every run prints
 //! catch_up.stdout. From this folder: cargo run --example catch_up
 
-use kofudile::{BlockedContext, BlockedDecision, DownloadWindow, Hash256, Headroom, Refusal, Seat, Staged, SyncBudget};
+use kofudile::{
+    BlockedContext, BlockedDecision, DownloadWindow, Hash256, Headroom, Result, Seat, Staged, SyncBudget, default_sync_budget,
+};
 use std::collections::{BTreeMap, VecDeque};
 use std::time::{Duration, Instant};
 
@@ -25,7 +27,7 @@ struct Host {
     released: usize,
 }
 
-fn main() -> Result<(), Refusal> {
+fn main() -> Result<()> {
     let start = Instant::now();
     let keys: [u8; 256] = std::array::from_fn(|seat| seat as u8);
     let peers = [(1, 4, u32::MAX), (2, 3, 20), (3, 2, u32::MAX)];
@@ -46,7 +48,7 @@ fn main() -> Result<(), Refusal> {
         host.request(now)?;
         step += 1;
     }
-    let (blocks, bytes) = host.window.pending_high_water()?;
+    let (blocks, bytes) = host.window.pending_high_water();
     println!(
         "step {step}: all {TIP} applied; {} let go and asked again; at most {blocks} blocks, {bytes} bytes pending",
         host.released
@@ -55,7 +57,7 @@ fn main() -> Result<(), Refusal> {
 }
 
 impl Host {
-    fn receive(&mut self, step: u32, now: Instant) -> Result<(), Refusal> {
+    fn receive(&mut self, step: u32, now: Instant) -> Result<()> {
         for peer in self.peers.iter_mut().filter(|peer| step <= peer.last_step) {
             for height in peer.asked.drain(..peer.speed.min(peer.asked.len())) {
                 self.window.mark_received_from(block(height), 400_000, Some(peer.seat), now)?;
@@ -69,7 +71,7 @@ impl Host {
     }
 
     /// Blocks whose owners are too late are asked again: the frontier went back to them.
-    fn sweep(&mut self, step: u32, now: Instant) -> Result<(), Refusal> {
+    fn sweep(&mut self, step: u32, now: Instant) -> Result<()> {
         let swept = self.window.expire_pending(now)?;
         if swept > 0 {
             println!("step {step}: swept {swept}");
@@ -78,7 +80,7 @@ impl Host {
         Ok(())
     }
 
-    fn look(&mut self, step: u32, now: Instant) -> Result<(), Refusal> {
+    fn look(&mut self, step: u32, now: Instant) -> Result<()> {
         let context = BlockedContext {
             next_apply_height: Some(self.next_apply),
             frontier_hash: self.staged.get(&self.next_apply).copied(),
@@ -88,7 +90,7 @@ impl Host {
         match self.window.observe_blocked(context, staged, now)? {
             BlockedDecision::Blame { owner, reason } => {
                 self.peers.retain(|peer| peer.seat != owner);
-                self.window.retain_owned_by(|seat| seat != owner)?;
+                self.window.retain_owned_by(|seat| seat != owner);
                 let lost = self.window.released().len();
                 println!("step {step}: seat {owner} blamed ({reason:?}) and dropped with {lost} entries");
                 self.released += lost;
@@ -96,7 +98,7 @@ impl Host {
             BlockedDecision::HedgeColdFront { owner, front_hash } => {
                 if let Some(other) = self.peers.iter_mut().find(|peer| peer.seat != owner) {
                     other.asked.push_front(self.next_apply);
-                    self.window.confirm_cold_front_hedge(owner, other.seat, front_hash)?;
+                    self.window.confirm_cold_front_hedge(owner, other.seat, front_hash);
                     println!("step {step}: block {} asked of seat {} too", self.next_apply, other.seat);
                 }
             }
@@ -107,16 +109,16 @@ impl Host {
     }
 
     /// Every peer gets what it may have, from the frontier up.
-    fn request(&mut self, now: Instant) -> Result<(), Refusal> {
+    fn request(&mut self, now: Instant) -> Result<()> {
         for peer in &mut self.peers {
             if self.window.peer_in_staller_cooldown(peer.seat, now)? {
                 continue;
             }
-            let Some((batch, _)) = self.window.compute_request_capacity(Headroom::UNLIMITED, peer.seat)? else { continue };
+            let Some((batch, _)) = self.window.compute_request_capacity(Headroom::UNLIMITED, peer.seat) else { continue };
             let mut entries = Vec::new();
-            let mut height = self.window.request_cursor()?.max(self.next_apply);
+            let mut height = self.window.request_cursor().max(self.next_apply);
             while entries.len() < batch && height <= TIP {
-                if !self.staged.contains_key(&height) && !self.window.contains_pending(&block(height))? {
+                if !self.staged.contains_key(&height) && !self.window.contains_pending(&block(height)) {
                     entries.push((block(height), height));
                 }
                 height += 1;
@@ -135,19 +137,7 @@ fn block(height: u32) -> Hash256 {
     Hash256(bytes)
 }
 
+/// Smaller messages than the original's default, so that the three peers share the work.
 fn budget() -> SyncBudget {
-    SyncBudget {
-        max_pending_blocks: 256,
-        max_pending_bytes: 512 << 20,
-        max_received_blocks: 256,
-        max_peer_inflight: 16,
-        fanout_peer_inflight: 16,
-        min_peers_for_fanout: 8,
-        getdata_batch_limit: 16,
-        block_spacing: Duration::from_secs(600),
-        received_timeout: Duration::from_secs(60),
-        stall_timeout_initial: Duration::from_secs(2),
-        stall_timeout_max: Duration::from_secs(64),
-        staller_cooldown: Duration::from_secs(64),
-    }
+    SyncBudget { max_peer_inflight: 16, getdata_batch_limit: 16, ..default_sync_budget(Duration::from_secs(600)) }
 }

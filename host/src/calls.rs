@@ -4,11 +4,13 @@ use std::time::{Duration, Instant};
 use crate::ffi;
 use crate::types::{
     BlameReason, BlockedContext, BlockedDecision, Entry, Hash256, Headroom, OwnedFetch, Reason, Refusal, RejectDelivery, Release,
-    Seat, Staged, SyncBudget, nanoseconds,
+    Result, Seat, Staged, SyncBudget, answered, nanoseconds,
 };
 
 pub(crate) const WORDS: usize = 4096;
-const PLACES: usize = 256;
+pub(crate) const PLACES: usize = 256;
+/// The word of the last accepted clock (docs/LAYOUT.md).
+pub(crate) const LAST_CLOCK: usize = 3586;
 const SEATS: usize = 256;
 
 const BLANK: ffi::Release =
@@ -18,8 +20,8 @@ const BLANK: ffi::Release =
 ///
 /// It owns the 4,096 words that the library works on, and the report of what the last accepted call let go ([`released`](Self::released); queries
 /// do not count).
-/// Every method answers `Err` where the library refuses, and a refused call changes nothing. A moment that is before the last accepted
-/// one is refused ([`Refusal::Clock`]), in calls and in queries.
+/// A method that the library can refuse answers a [`Result`]; a refused call changed nothing. A moment before the last accepted one
+/// ([`last_clock`](Self::last_clock)) is refused ([`Refusal::Clock`]), in calls and in queries. The other methods answer plain values.
 #[derive(Clone)]
 pub struct DownloadWindow {
     words: Box<[u64; WORDS]>,
@@ -36,7 +38,10 @@ pub struct DownloadWindow {
 /// Openings.
 impl DownloadWindow {
     /// An empty window. `keys`: for each seat the number of the address behind it; seats of one address cool together.
-    pub fn new(budget: SyncBudget, keys: &[u8; SEATS], now: Instant) -> Result<Self, Refusal> {
+    ///
+    /// # Errors
+    /// [`Refusal::Settings`]
+    pub fn new(budget: SyncBudget, keys: &[u8; SEATS], now: Instant) -> Result<Self> {
         let mut window = Self::over(boxed(0), now);
         let keys = keys.map(u64::from);
         let (w, n) = window.lend();
@@ -46,14 +51,20 @@ impl DownloadWindow {
     }
 
     /// The window that these words hold, saved from [`words`](Self::words); `clock_zero` is the moment that was
-    /// [`clock_zero`](Self::clock_zero) then. Words that are not a window are refused ([`Refusal::NoWindow`]).
+    /// [`clock_zero`](Self::clock_zero) then.
     ///
     /// The words hold times counted from that moment, and an `Instant` cannot be saved: save `clock_zero().elapsed()` with the words, and hand in
     /// `Instant::now() - elapsed`. The time between counts as none then. With a later moment, such as `Instant::now()`, every call that takes one
     /// is refused ([`Refusal::Clock`]) until the clock has caught up with the saved one.
-    pub fn from_words(words: Box<[u64; WORDS]>, clock_zero: Instant) -> Result<Self, Refusal> {
+    ///
+    /// # Errors
+    /// [`Refusal::NoWindow`]; [`Refusal::Clock`] where the saved last clock, counted from `clock_zero`, is past what an `Instant` can be.
+    pub fn from_words(words: Box<[u64; WORDS]>, clock_zero: Instant) -> Result<Self> {
         let window = Self::over(words, clock_zero);
-        window.pending_len().map(|_| window)
+        // SAFETY: as in `new`.
+        let last = unsafe { ffi::kofudile_pending_len(window.words.as_ptr(), WORDS) };
+        Refusal::unless(last.refused, || ())?;
+        clock_zero.checked_add(Duration::from_nanos(window.words[LAST_CLOCK])).map(|_| window).ok_or(Refusal::Clock)
     }
 
     /// The words, for saving; docs/LAYOUT.md says what each means.
@@ -76,7 +87,8 @@ impl DownloadWindow {
     /// The host sent a request: its entries, hash and height, are pending from now. The frontier is raised to `next_request_height`. The
     /// headroom is the one with the entries in. Answers whether there is room for more.
     ///
-    /// Refused by `Clock`, `Duplicate`, `TooMany`.
+    /// # Errors
+    /// [`Refusal::Clock`], [`Refusal::Duplicate`], [`Refusal::TooMany`]
     pub fn mark_requested(
         &mut self,
         headroom: Headroom,
@@ -84,7 +96,7 @@ impl DownloadWindow {
         entries: &[(Hash256, u32)],
         next_request_height: u32,
         now: Instant,
-    ) -> Result<bool, Refusal> {
+    ) -> Result<bool> {
         self.hashes.clear();
         self.heights.clear();
         for (hash, height) in entries {
@@ -115,7 +127,8 @@ impl DownloadWindow {
 
     /// The host would fetch one block out of turn; `is_staged`: whether its body is staged. Only after [`OwnedFetch::Asked`] is a message to be sent.
     ///
-    /// Refused by `Clock`.
+    /// # Errors
+    /// [`Refusal::Clock`]
     pub fn mark_owned_fetch(
         &mut self,
         headroom: Headroom,
@@ -124,7 +137,7 @@ impl DownloadWindow {
         hash: Hash256,
         height: u32,
         now: Instant,
-    ) -> Result<OwnedFetch, Refusal> {
+    ) -> Result<OwnedFetch> {
         let clock = self.clock(now);
         let (w, n) = self.lend();
         // SAFETY: as in `new`.
@@ -156,14 +169,15 @@ impl DownloadWindow {
     /// A body came: its entry goes, whoever sent it; the source, if there is one, is credited, which may decide a race and let the losers' entries go;
     /// the mean moves. Answers the height at which it was pending.
     ///
-    /// Refused by `Clock`, `BodySize`.
+    /// # Errors
+    /// [`Refusal::Clock`], [`Refusal::BodySize`]
     pub fn mark_received_from(
         &mut self,
         hash: Hash256,
         bytes: usize,
         source_peer: Option<Seat>,
         now: Instant,
-    ) -> Result<Option<u32>, Refusal> {
+    ) -> Result<Option<u32>> {
         let (clock, (has, source)) = (self.clock(now), perhaps_seat(source_peer));
         let (w, n, r, m) = self.lend_both();
         // SAFETY: words and report are ours and apart, lent for this call alone, as in every call that lets go.
@@ -174,14 +188,9 @@ impl DownloadWindow {
 
     /// Credits the source of a body as [`mark_received_from`](Self::mark_received_from) does; the entry and the mean stay.
     ///
-    /// Refused by `Clock`.
-    pub fn credit_delivery_from(
-        &mut self,
-        hash: Hash256,
-        source: Seat,
-        pending_height: Option<u32>,
-        now: Instant,
-    ) -> Result<(), Refusal> {
+    /// # Errors
+    /// [`Refusal::Clock`]
+    pub fn credit_delivery_from(&mut self, hash: Hash256, source: Seat, pending_height: Option<u32>, now: Instant) -> Result<()> {
         let (clock, (has, height)) = (self.clock(now), perhaps_height(pending_height));
         let (w, n, r, m) = self.lend_both();
         // SAFETY: as in `mark_received_from`.
@@ -189,18 +198,20 @@ impl DownloadWindow {
         self.filled(said.refused, said.places)
     }
 
-    /// The source sent what was there already: it is no longer watched for this hash. Never refused.
-    pub fn credit_duplicate_delivery(&mut self, hash: Hash256, source: Seat) -> Result<(), Refusal> {
+    /// The source sent what was there already: it is no longer watched for this hash.
+    pub fn credit_duplicate_delivery(&mut self, hash: Hash256, source: Seat) {
         let (w, n) = self.lend();
         // SAFETY: as in `new`.
         let refused = unsafe { ffi::kofudile_credit_duplicate_delivery(w, n, hash.flat(), source.into()) };
-        self.kept(refused)
+        answered(refused, ());
+        self.places = 0;
     }
 
     /// A body was no good: if its source owned the entry, the entry goes.
     ///
-    /// Refused by `Clock`.
-    pub fn reject_delivery(&mut self, hash: Hash256, source_peer: Option<Seat>, now: Instant) -> Result<RejectDelivery, Refusal> {
+    /// # Errors
+    /// [`Refusal::Clock`]
+    pub fn reject_delivery(&mut self, hash: Hash256, source_peer: Option<Seat>, now: Instant) -> Result<RejectDelivery> {
         let (clock, (has, source)) = (self.clock(now), perhaps_seat(source_peer));
         let (w, n, r, m) = self.lend_both();
         // SAFETY: as in `mark_received_from`.
@@ -230,8 +241,9 @@ impl DownloadWindow {
 
     /// The sweep: entries of owners whose time is out, and entries passed over, go. Answers how many.
     ///
-    /// Refused by `Clock`.
-    pub fn expire_pending(&mut self, now: Instant) -> Result<usize, Refusal> {
+    /// # Errors
+    /// [`Refusal::Clock`]
+    pub fn expire_pending(&mut self, now: Instant) -> Result<usize> {
         let clock = self.clock(now);
         let (w, n, r, m) = self.lend_both();
         // SAFETY: as in `mark_received_from`.
@@ -242,8 +254,9 @@ impl DownloadWindow {
 
     /// The block is to be asked again: its entry, if any, goes; the frontier is lowered to the height too, entry or none.
     ///
-    /// Refused by `Clock`.
-    pub fn requeue_for_retry(&mut self, hash: &Hash256, height: Option<u32>, now: Instant) -> Result<(), Refusal> {
+    /// # Errors
+    /// [`Refusal::Clock`]
+    pub fn requeue_for_retry(&mut self, hash: &Hash256, height: Option<u32>, now: Instant) -> Result<()> {
         let (clock, (has, height)) = (self.clock(now), perhaps_height(height));
         let (w, n, r, m) = self.lend_both();
         // SAFETY: as in `mark_received_from`.
@@ -253,8 +266,9 @@ impl DownloadWindow {
 
     /// The block is no longer wanted: its entry, if any, goes; the frontier stays.
     ///
-    /// Refused by `Clock`.
-    pub fn release_pending(&mut self, hash: &Hash256, now: Instant) -> Result<(), Refusal> {
+    /// # Errors
+    /// [`Refusal::Clock`]
+    pub fn release_pending(&mut self, hash: &Hash256, now: Instant) -> Result<()> {
         let clock = self.clock(now);
         let (w, n, r, m) = self.lend_both();
         // SAFETY: as in `mark_received_from`.
@@ -264,8 +278,9 @@ impl DownloadWindow {
 
     /// Every entry below the height goes; the frontier stays. What is staged below it is the host's to drop.
     ///
-    /// Refused by `Clock`.
-    pub fn retire_before(&mut self, height: u32, now: Instant) -> Result<(), Refusal> {
+    /// # Errors
+    /// [`Refusal::Clock`]
+    pub fn retire_before(&mut self, height: u32, now: Instant) -> Result<()> {
         let clock = self.clock(now);
         let (w, n, r, m) = self.lend_both();
         // SAFETY: as in `mark_received_from`.
@@ -273,13 +288,13 @@ impl DownloadWindow {
         self.filled(said.refused, said.places)
     }
 
-    /// Seats that are not owned are gone: their entries go, and races forget them. Asked once of each seat. Never refused.
-    pub fn retain_owned_by(&mut self, owns: impl Fn(Seat) -> bool) -> Result<(), Refusal> {
+    /// Seats that are not owned are gone: their entries go, and races forget them. Asked once of each seat.
+    pub fn retain_owned_by(&mut self, owns: impl Fn(Seat) -> bool) {
         let flags: [u64; SEATS] = std::array::from_fn(|seat| owns(seat as Seat).into());
         let (w, n, r, m) = self.lend_both();
         // SAFETY: as in `mark_received_from`.
         let said = unsafe { ffi::kofudile_retain_owned_by(w, n, r, m, flags.as_ptr(), flags.len()) };
-        self.filled(said.refused, said.places)
+        self.places = answered(said.refused, said.places as usize);
     }
 }
 
@@ -287,8 +302,9 @@ impl DownloadWindow {
 impl DownloadWindow {
     /// The address behind the source cools from now on.
     ///
-    /// Refused by `Clock`.
-    pub fn mark_peer_unresponsive(&mut self, source: Seat, now: Instant) -> Result<(), Refusal> {
+    /// # Errors
+    /// [`Refusal::Clock`]
+    pub fn mark_peer_unresponsive(&mut self, source: Seat, now: Instant) -> Result<()> {
         let clock = self.clock(now);
         let (w, n) = self.lend();
         // SAFETY: as in `new`.
@@ -300,14 +316,9 @@ impl DownloadWindow {
     /// is no alternate, or if owner and hashes are not those of the plan as it is now, and answers `Ok` all the same:
     /// [`active_prefix_probe_started_at`](Self::active_prefix_probe_started_at) says whether it began.
     ///
-    /// Refused by `Clock`, `Peer` (more than 256 alternates).
-    pub fn confirm_prefix_probe(
-        &mut self,
-        owner: Seat,
-        hashes: &[Hash256],
-        alternates: &[Seat],
-        now: Instant,
-    ) -> Result<(), Refusal> {
+    /// # Errors
+    /// [`Refusal::Clock`], [`Refusal::Peer`] (more than 256 alternates)
+    pub fn confirm_prefix_probe(&mut self, owner: Seat, hashes: &[Hash256], alternates: &[Seat], now: Instant) -> Result<()> {
         let given: Vec<u64> = hashes.iter().flat_map(|hash| hash.words()).collect();
         let alternates: Vec<u64> = alternates.iter().copied().map(u64::from).collect();
         let clock = self.clock(now);
@@ -329,19 +340,20 @@ impl DownloadWindow {
     }
 
     /// The host asked the alternate too for the block of [`BlockedDecision::HedgeColdFront`]. Does nothing if the window waits for another, or hedged
-    /// two fronts already, and answers `Ok` all the same: [`hedge_offered`](Self::hedge_offered) of alternate and hash says whether it began. Never
-    /// refused.
-    pub fn confirm_cold_front_hedge(&mut self, owner: Seat, alternate: Seat, hash: Hash256) -> Result<(), Refusal> {
+    /// two fronts already, and answers `Ok` all the same: [`hedge_offered`](Self::hedge_offered) of alternate and hash says whether it began.
+    pub fn confirm_cold_front_hedge(&mut self, owner: Seat, alternate: Seat, hash: Hash256) {
         let (w, n) = self.lend();
         // SAFETY: as in `new`.
         let refused = unsafe { ffi::kofudile_confirm_cold_front_hedge(w, n, owner.into(), alternate.into(), hash.flat()) };
-        self.kept(refused)
+        answered(refused, ());
+        self.places = 0;
     }
 
     /// The look at a blocked window, to be made again and again: what to do.
     ///
-    /// Refused by `Clock`.
-    pub fn observe_blocked(&mut self, context: BlockedContext, staged: Staged, now: Instant) -> Result<BlockedDecision, Refusal> {
+    /// # Errors
+    /// [`Refusal::Clock`]
+    pub fn observe_blocked(&mut self, context: BlockedContext, staged: Staged, now: Instant) -> Result<BlockedDecision> {
         let clock = self.clock(now);
         let ((has_next, next), (has_highest, highest)) =
             (perhaps_height(context.next_apply_height), perhaps_height(staged.highest));
@@ -380,8 +392,9 @@ impl DownloadWindow {
     /// So many peers may be asked. With `min_peers_for_fanout` of them fan-out engages, unless a prefix race is younger than
     /// `stall_timeout_initial`; with two fewer it ends. While it is engaged no prefix race runs.
     ///
-    /// Refused by `Clock`.
-    pub fn set_fanout_eligible_peers(&mut self, count: usize, now: Instant) -> Result<(), Refusal> {
+    /// # Errors
+    /// [`Refusal::Clock`]
+    pub fn set_fanout_eligible_peers(&mut self, count: usize, now: Instant) -> Result<()> {
         let clock = self.clock(now);
         let (w, n) = self.lend();
         // SAFETY: as in `new`.
@@ -389,12 +402,13 @@ impl DownloadWindow {
         self.kept(refused)
     }
 
-    /// Forgets the winner of the last race. Never refused.
-    pub fn clear_preferred_peer(&mut self) -> Result<(), Refusal> {
+    /// Forgets the winner of the last race.
+    pub fn clear_preferred_peer(&mut self) {
         let (w, n) = self.lend();
         // SAFETY: as in `new`.
         let refused = unsafe { ffi::kofudile_clear_preferred_peer(w, n) };
-        self.kept(refused)
+        answered(refused, ());
+        self.places = 0;
     }
 }
 
@@ -408,12 +422,12 @@ impl DownloadWindow {
     }
 
     /// After a call that lets nothing go: there is no report, unless it was refused.
-    fn kept(&mut self, refused: u64) -> Result<(), Refusal> {
+    fn kept(&mut self, refused: u64) -> Result<()> {
         self.filled(refused, 0)
     }
 
     /// After a call that lets go: its report counts from now, unless it was refused.
-    fn filled(&mut self, refused: u64, places: u64) -> Result<(), Refusal> {
+    fn filled(&mut self, refused: u64, places: u64) -> Result<()> {
         Refusal::unless(refused, || self.places = places as usize)
     }
 
@@ -422,8 +436,10 @@ impl DownloadWindow {
         now.checked_duration_since(self.clock_zero).map_or(u64::MAX, nanoseconds)
     }
 
+    /// No time in the words is past the last clock, and that is a moment: `from_words` sees to it, and later ones came as moments. So
+    /// the sum is there.
     pub(crate) fn moment(&self, clock: u64) -> Instant {
-        self.clock_zero + Duration::from_nanos(clock)
+        self.clock_zero.checked_add(Duration::from_nanos(clock)).unwrap_or(self.clock_zero)
     }
 }
 

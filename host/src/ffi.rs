@@ -1,11 +1,13 @@
-//! include/kofudile.h as Rust.
+//! The raw layer: include/kofudile.h as Rust, for a host that keeps the 4,096 words in memory of its own. The header says what each function
+//! does, what is lent for how long, and what the caller must keep; every function is `unsafe` for that alone.
+#![allow(missing_docs, clippy::missing_safety_doc)]
 
 #[repr(C)]
-#[derive(Clone, Copy)]
+#[derive(Clone, Copy, Debug, PartialEq, Eq)]
 pub struct Hash(pub [u64; 4]);
 
 #[repr(C)]
-#[derive(Clone, Copy)]
+#[derive(Clone, Copy, Debug, PartialEq, Eq)]
 pub struct Entry {
     pub hash: Hash,
     pub owner: u64,
@@ -15,13 +17,14 @@ pub struct Entry {
 }
 
 #[repr(C)]
-#[derive(Clone, Copy)]
+#[derive(Clone, Copy, Debug, PartialEq, Eq)]
 pub struct Release {
     pub entry: Entry,
     pub reason: u64,
 }
 
 #[repr(C)]
+#[derive(Clone, Copy, Debug, PartialEq, Eq)]
 pub struct Settings {
     pub max_pending_blocks: u64,
     pub max_pending_bytes: u64,
@@ -38,12 +41,14 @@ pub struct Settings {
 }
 
 #[repr(C)]
+#[derive(Clone, Copy, Debug, PartialEq, Eq)]
 pub struct Number {
     pub refused: u64,
     pub value: u64,
 }
 
 #[repr(C)]
+#[derive(Clone, Copy, Debug, PartialEq, Eq)]
 pub struct Pair {
     pub refused: u64,
     pub first: u64,
@@ -51,6 +56,7 @@ pub struct Pair {
 }
 
 #[repr(C)]
+#[derive(Clone, Copy, Debug, PartialEq, Eq)]
 pub struct Perhaps {
     pub refused: u64,
     pub present: u64,
@@ -58,6 +64,7 @@ pub struct Perhaps {
 }
 
 #[repr(C)]
+#[derive(Clone, Copy, Debug, PartialEq, Eq)]
 pub struct PerhapsPair {
     pub refused: u64,
     pub present: u64,
@@ -66,12 +73,14 @@ pub struct PerhapsPair {
 }
 
 #[repr(C)]
+#[derive(Clone, Copy, Debug, PartialEq, Eq)]
 pub struct Gone {
     pub refused: u64,
     pub places: u64,
 }
 
 #[repr(C)]
+#[derive(Clone, Copy, Debug, PartialEq, Eq)]
 pub struct Received {
     pub refused: u64,
     pub places: u64,
@@ -80,6 +89,7 @@ pub struct Received {
 }
 
 #[repr(C)]
+#[derive(Clone, Copy, Debug, PartialEq, Eq)]
 pub struct Rejected {
     pub refused: u64,
     pub places: u64,
@@ -87,6 +97,7 @@ pub struct Rejected {
 }
 
 #[repr(C)]
+#[derive(Clone, Copy, Debug, PartialEq, Eq)]
 pub struct Blocked {
     pub refused: u64,
     pub decision: u64,
@@ -97,6 +108,7 @@ pub struct Blocked {
 }
 
 #[repr(C)]
+#[derive(Clone, Copy, Debug, PartialEq, Eq)]
 pub struct Plan {
     pub refused: u64,
     pub present: u64,
@@ -268,6 +280,5 @@ const _: () = {
     assert!(size_of::<Received>() == 32);
     assert!(size_of::<Rejected>() == 24);
     assert!(size_of::<Blocked>() == 72);
-    assert!(size_of::<Plan>() == 40);
-    assert!(size_of::<Hashes>() == 256);
+    assert!(size_of::<Plan>() == 296);
 };

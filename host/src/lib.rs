@@ -4,30 +4,17 @@
 //! every function is proved to do what its definition says. README.md in this folder says, method by method, how a host of the original changes over.
 //!
 //! ```
-//! use kofudile::{DownloadWindow, Hash256, Headroom, SyncBudget};
+//! use kofudile::{DownloadWindow, Hash256, Headroom, default_sync_budget};
 //! use std::time::{Duration, Instant};
 //!
-//! # fn main() -> Result<(), kofudile::Refusal> {
-//! let budget = SyncBudget {
-//!     max_pending_blocks: 256,
-//!     max_pending_bytes: 512 << 20,
-//!     max_received_blocks: 256,
-//!     max_peer_inflight: 256,
-//!     fanout_peer_inflight: 16,
-//!     min_peers_for_fanout: 8,
-//!     getdata_batch_limit: 256,
-//!     block_spacing: Duration::from_secs(600),
-//!     received_timeout: Duration::from_secs(60),
-//!     stall_timeout_initial: Duration::from_secs(2),
-//!     stall_timeout_max: Duration::from_secs(64),
-//!     staller_cooldown: Duration::from_secs(64),
-//! };
+//! # fn main() -> kofudile::Result<()> {
+//! let budget = default_sync_budget(Duration::from_secs(600));
 //! let keys: [u8; 256] = std::array::from_fn(|seat| seat as u8);
 //! let now = Instant::now();
 //! let mut window = DownloadWindow::new(budget, &keys, now)?;
 //! let block = Hash256([7; 32]);
 //! window.mark_requested(Headroom::UNLIMITED, 3, &[(block, 1)], 2, now)?;
-//! assert_eq!(window.pending_owner(&block)?, Some(3));
+//! assert_eq!(window.pending_owner(&block), Some(3));
 //! assert_eq!(window.mark_received_from(block, 1_000_000, Some(3), now)?, Some(1));
 //! assert_eq!(window.released().count(), 1);
 //! # Ok(())
@@ -39,12 +26,12 @@
 compile_error!("libkofudile.a is for x86-64");
 
 mod calls;
-mod ffi;
+pub mod ffi;
 mod queries;
 mod types;
 
 pub use calls::DownloadWindow;
 pub use types::{
     BlameReason, BlockedContext, BlockedDecision, Entry, Hash256, Headroom, OwnedFetch, PrefixProbePlan, Reason, Refusal,
-    RejectDelivery, Release, Seat, Staged, SyncBudget,
+    RejectDelivery, Release, Result, Seat, Staged, SyncBudget, default_sync_budget, fast_sync_budget,
 };

@@ -3,6 +3,15 @@ use std::time::{Duration, Instant};
 
 use crate::ffi;
 
+/// What a method answers that the library can refuse.
+pub type Result<T> = std::result::Result<T, Refusal>;
+
+/// The answer of a call that cannot be refused: the words are a window, since only accepted calls made them, and every list has its length.
+pub(crate) fn answered<T>(refused: u64, answer: T) -> T {
+    assert!(refused == 0, "refusal {refused}: the window's memory was changed from outside");
+    answer
+}
+
 /// The host's number for a connection, in place of the original's `PeerSource`.
 pub type Seat = u8;
 
@@ -74,7 +83,37 @@ pub struct SyncBudget {
     pub staller_cooldown: Duration,
 }
 
+/// The original's budget of this name; `block_spacing` is the network's, 600 s for Bitcoin's main one.
+pub const fn default_sync_budget(block_spacing: Duration) -> SyncBudget {
+    SyncBudget {
+        max_pending_blocks: 256,
+        max_pending_bytes: 512 << 20,
+        max_received_blocks: 256,
+        max_peer_inflight: 256,
+        fanout_peer_inflight: 16,
+        min_peers_for_fanout: 8,
+        getdata_batch_limit: 256,
+        block_spacing,
+        received_timeout: Duration::from_secs(60),
+        stall_timeout_initial: Duration::from_secs(2),
+        stall_timeout_max: Duration::from_secs(64),
+        staller_cooldown: Duration::from_secs(64),
+    }
+}
+
+/// The original's budget of this name: fan-out from two peers on, eight blocks each.
+pub const fn fast_sync_budget(block_spacing: Duration) -> SyncBudget {
+    SyncBudget { fanout_peer_inflight: 8, min_peers_for_fanout: 2, ..default_sync_budget(block_spacing) }
+}
+
 impl SyncBudget {
+    /// The same budget with at most this many bytes pending, as the original's; the host holds its staging area to the ceiling too.
+    #[must_use]
+    pub fn with_byte_ceiling(mut self, ceiling: usize) -> Self {
+        self.max_pending_bytes = self.max_pending_bytes.min(ceiling);
+        self
+    }
+
     pub(crate) fn flat(&self) -> ffi::Settings {
         ffi::Settings {
             max_pending_blocks: self.max_pending_blocks as u64,
@@ -206,6 +245,7 @@ pub struct PrefixProbePlan {
 
 /// Why an entry went.
 #[derive(Clone, Copy, Debug, PartialEq, Eq)]
+#[non_exhaustive]
 pub enum Reason {
     /// Its body came, from whomever.
     Delivered = 1,
@@ -251,6 +291,7 @@ impl Reason {
 
 /// A block that was asked for.
 #[derive(Clone, Copy, Debug, PartialEq, Eq)]
+#[non_exhaustive]
 pub struct Entry {
     /// Its hash.
     pub hash: Hash256,
@@ -266,6 +307,7 @@ pub struct Entry {
 
 /// An entry that went, and why.
 #[derive(Clone, Copy, Debug, PartialEq, Eq)]
+#[non_exhaustive]
 pub struct Release {
     /// The entry as it was.
     pub entry: Entry,
@@ -276,8 +318,10 @@ pub struct Release {
 /// Why a call was refused: it then changed nothing. Of several causes the first in this order is told.
 ///
 /// The window of this crate owns its words and its report and takes seats and keys as `u8`, so that its calls meet only `Clock`, `Settings`,
-/// `Peer` (more than 256 alternates), `Duplicate`, `TooMany` and `BodySize`; [`from_words`](crate::DownloadWindow::from_words) meets `NoWindow`.
+/// `Peer` (more than 256 alternates), `Duplicate`, `TooMany` and `BodySize`; [`from_words`](crate::DownloadWindow::from_words) meets `NoWindow`. A host that
+/// calls the raw layer ([`ffi`](crate::ffi)) with memory of its own can meet the others.
 #[derive(Clone, Copy, Debug, PartialEq, Eq)]
+#[non_exhaustive]
 pub enum Refusal {
     /// 1: the host lent memory that is not 4,096 words.
     WordsLength = 1,
@@ -319,7 +363,7 @@ impl Refusal {
     }
 
     /// The answer where `refused` is 0.
-    pub(crate) fn unless<T>(refused: u64, answer: impl FnOnce() -> T) -> Result<T, Self> {
+    pub(crate) fn unless<T>(refused: u64, answer: impl FnOnce() -> T) -> Result<T> {
         match refused {
             0 => Ok(answer()),
             number => Err(Self::ALL[number as usize - 1]),

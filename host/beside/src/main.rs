@@ -87,14 +87,16 @@ impl Host {
                         kofudile::OwnedFetch::NoCapacity => OwnedFetch::NoCapacity,
                     })
                 }),
-            Call::CreditDuplicateDelivery { hash, source } => done(window.credit_duplicate_delivery(Hash256(hash.0), *source)),
+            Call::CreditDuplicateDelivery { hash, source } => {
+                done(Ok(window.credit_duplicate_delivery(Hash256(hash.0), *source)))
+            }
             Call::MarkPeerUnresponsive { clock, source } => done(window.mark_peer_unresponsive(*source, self.at(*clock))),
             Call::ConfirmPrefixProbe { clock, owner, hashes, alternates } => {
                 let hashes: Vec<Hash256> = hashes.iter().map(|hash| Hash256(hash.0)).collect();
                 done(window.confirm_prefix_probe(*owner, &hashes, alternates, self.at(*clock)))
             }
             Call::ConfirmColdFrontHedge { owner, alternate, hash } => {
-                done(window.confirm_cold_front_hedge(*owner, *alternate, Hash256(hash.0)))
+                done(Ok(window.confirm_cold_front_hedge(*owner, *alternate, Hash256(hash.0))))
             }
             Call::ObserveBlocked { clock, next_apply_height, frontier_hash, busy, staged_count, staged_height } => {
                 let context = BlockedContext {
@@ -108,7 +110,7 @@ impl Host {
             Call::SetFanoutEligiblePeers { clock, count } => {
                 done(window.set_fanout_eligible_peers(*count as usize, self.at(*clock)))
             }
-            Call::ClearPreferredPeer => done(window.clear_preferred_peer()),
+            Call::ClearPreferredPeer => done(Ok(window.clear_preferred_peer())),
             _ => return None,
         };
         Some(self.with_released(window, answer))
@@ -136,7 +138,7 @@ impl Host {
             }
             Call::ReleasePending { clock, hash } => done(window.release_pending(&Hash256(hash.0), self.at(*clock))),
             Call::RetireBefore { clock, height } => done(window.retire_before(*height, self.at(*clock))),
-            Call::RetainOwnedBy { owns } => done(window.retain_owned_by(|seat| owns[usize::from(seat)])),
+            Call::RetainOwnedBy { owns } => done(Ok(window.retain_owned_by(|seat| owns[usize::from(seat)]))),
             _ => return None,
         };
         Some(self.with_released(window, answer))
@@ -148,55 +150,61 @@ impl Host {
 
     fn query(&self, window: &DownloadWindow, call: &Call) -> Said {
         let answer = match call {
-            Call::FanoutActive => window.fanout_active().map(Answer::Flag),
-            Call::PendingLen => window.pending_len().map(number),
-            Call::PendingBytes => window.pending_bytes().map(number),
-            Call::PendingHighWater => window.pending_high_water().map(pair),
-            Call::MaxPendingBlocks => window.max_pending_blocks().map(number),
-            Call::MinPeersForFanout => window.min_peers_for_fanout().map(number),
-            Call::HasRequestCapacity { byte_headroom, count_headroom } => {
-                window.has_request_capacity(headroom(*byte_headroom, *count_headroom)).map(Answer::Flag)
-            }
-            Call::ComputeRequestCapacity { source, byte_headroom, count_headroom } => window
-                .compute_request_capacity(headroom(*byte_headroom, *count_headroom), *source)
-                .map(|capacity| Answer::MaybePair(capacity.map(|(batch, bytes)| (batch as u64, bytes as u64)))),
-            Call::EffectivePeerInflight => window.effective_peer_inflight().map(number),
-            Call::ExpiredPendingCapacity { clock } => window.expired_pending_capacity(self.at(*clock)).map(pair),
+            Call::ExpiredPendingCapacity { clock } => pair(window.expired_pending_capacity(self.at(*clock))?),
             Call::PeerHasExpiredPending { source, clock } => {
-                window.peer_has_expired_pending(*source, self.at(*clock)).map(Answer::Flag)
+                Answer::Flag(window.peer_has_expired_pending(*source, self.at(*clock))?)
             }
             Call::PeerInStallerCooldown { source, clock } => {
-                window.peer_in_staller_cooldown(*source, self.at(*clock)).map(Answer::Flag)
+                Answer::Flag(window.peer_in_staller_cooldown(*source, self.at(*clock))?)
             }
-            Call::StallingPeer => {
-                window.stalling_peer().map(|peer| Answer::MaybePair(peer.map(|(key, since)| (u64::from(key), self.clock(since)))))
-            }
-            Call::PreferredPeer => window.preferred_peer().map(seat),
-            Call::ProbeOffered { source, hash } => window.probe_offered(*source, &Hash256(hash.0)).map(Answer::Flag),
-            Call::HedgeOffered { source, hash } => window.hedge_offered(*source, &Hash256(hash.0)).map(Answer::Flag),
-            Call::PrefixProbePlan => window.prefix_probe_plan().map(|plan| {
-                Answer::Planned(plan.map(|plan| Plan {
-                    owner: plan.owner,
-                    hashes: plan.hashes.iter().map(|hash| calls::Hash(hash.0)).collect(),
-                    end_height: plan.end_height,
-                }))
-            }),
-            Call::ContainsPending { hash } => window.contains_pending(&Hash256(hash.0)).map(Answer::Flag),
-            Call::PendingOwner { hash } => window.pending_owner(&Hash256(hash.0)).map(seat),
-            Call::IsDownloading { owner } => window.is_downloading(*owner).map(Answer::Flag),
-            Call::ActiveDownloadingPeers => window.active_downloading_peers().map(number),
-            Call::EffectiveOwnerTimeout => window.effective_owner_timeout().map(duration),
-            Call::StallDecayFloor => window.stall_decay_floor().map(duration),
-            Call::PendingCountFor { source } => window.pending_count_for(*source).map(number),
-            Call::RequestCursor => window.request_cursor().map(|height| Answer::Number(height.into())),
-            Call::StallTimeout => window.stall_timeout().map(duration),
-            Call::FrontIntervalEwmaMs => window.front_interval_ewma_ms().map(Answer::MaybeNumber),
-            Call::EwmaBlockBytes => window.ewma_block_bytes().map(number),
-            Call::OwnerQueueStart { owner } => window.owner_queue_start(*owner).map(|start| self.moment(start)),
-            Call::ProbeStartedAt => window.active_prefix_probe_started_at().map(|start| self.moment(start)),
-            changing => unreachable!("{changing:?} is made elsewhere"),
+            timeless => self.timeless(window, timeless),
         };
-        answer.map(|answer| (answer, Vec::new()))
+        Ok((answer, Vec::new()))
+    }
+
+    /// Queries that take no clock: none can be refused.
+    fn timeless(&self, window: &DownloadWindow, call: &Call) -> Answer {
+        match call {
+            Call::FanoutActive => Answer::Flag(window.fanout_active()),
+            Call::PendingLen => number(window.pending_len()),
+            Call::PendingBytes => number(window.pending_bytes()),
+            Call::PendingHighWater => pair(window.pending_high_water()),
+            Call::MaxPendingBlocks => number(window.max_pending_blocks()),
+            Call::MinPeersForFanout => number(window.min_peers_for_fanout()),
+            Call::HasRequestCapacity { byte_headroom, count_headroom } => {
+                Answer::Flag(window.has_request_capacity(headroom(*byte_headroom, *count_headroom)))
+            }
+            Call::ComputeRequestCapacity { source, byte_headroom, count_headroom } => {
+                let capacity = window.compute_request_capacity(headroom(*byte_headroom, *count_headroom), *source);
+                Answer::MaybePair(capacity.map(|(batch, bytes)| (batch as u64, bytes as u64)))
+            }
+            Call::EffectivePeerInflight => number(window.effective_peer_inflight()),
+            Call::StallingPeer => {
+                Answer::MaybePair(window.stalling_peer().map(|(key, since)| (u64::from(key), self.clock(since))))
+            }
+            Call::PreferredPeer => seat(window.preferred_peer()),
+            Call::ProbeOffered { source, hash } => Answer::Flag(window.probe_offered(*source, &Hash256(hash.0))),
+            Call::HedgeOffered { source, hash } => Answer::Flag(window.hedge_offered(*source, &Hash256(hash.0))),
+            Call::PrefixProbePlan => Answer::Planned(window.prefix_probe_plan().map(|plan| Plan {
+                owner: plan.owner,
+                hashes: plan.hashes.iter().map(|hash| calls::Hash(hash.0)).collect(),
+                end_height: plan.end_height,
+            })),
+            Call::ContainsPending { hash } => Answer::Flag(window.contains_pending(&Hash256(hash.0))),
+            Call::PendingOwner { hash } => seat(window.pending_owner(&Hash256(hash.0))),
+            Call::IsDownloading { owner } => Answer::Flag(window.is_downloading(*owner)),
+            Call::ActiveDownloadingPeers => number(window.active_downloading_peers()),
+            Call::EffectiveOwnerTimeout => duration(window.effective_owner_timeout()),
+            Call::StallDecayFloor => duration(window.stall_decay_floor()),
+            Call::PendingCountFor { source } => number(window.pending_count_for(*source)),
+            Call::RequestCursor => Answer::Number(window.request_cursor().into()),
+            Call::StallTimeout => duration(window.stall_timeout()),
+            Call::FrontIntervalEwmaMs => Answer::MaybeNumber(window.front_interval_ewma_ms()),
+            Call::EwmaBlockBytes => number(window.ewma_block_bytes()),
+            Call::OwnerQueueStart { owner } => self.moment(window.owner_queue_start(*owner)),
+            Call::ProbeStartedAt => self.moment(window.active_prefix_probe_started_at()),
+            changing => unreachable!("{changing:?} is made elsewhere"),
+        }
     }
 
     fn moment(&self, moment: Option<Instant>) -> Answer {
@@ -204,7 +212,7 @@ impl Host {
     }
 
     fn plain(&self, release: kofudile::Release) -> Release {
-        let kofudile::Entry { hash, owner, requested_at, height, estimated_bytes } = release.entry;
+        let kofudile::Entry { hash, owner, requested_at, height, estimated_bytes, .. } = release.entry;
         let requested_at = self.clock(requested_at);
         let entry = Entry { hash: calls::Hash(hash.0), owner, requested_at, height, estimated_bytes: estimated_bytes as u64 };
         let reason = match release.reason {
@@ -218,6 +226,7 @@ impl Host {
             kofudile::Reason::SeatLost => Reason::SeatLost,
             kofudile::Reason::PrefixRaceLost => Reason::PrefixRaceLost,
             kofudile::Reason::HedgeLost => Reason::HedgeLost,
+            other => unreachable!("{other:?} is no reason of the oracle"),
         };
         Release { entry, reason }
     }
