@@ -9,15 +9,28 @@ not_run() {
     exit 0
 }
 
-# A relative KOFUDILE_SOURCE counts from the repository's root.
-find_source() {
-    local source=${KOFUDILE_SOURCE:-../shared}
-    [[ $source = /* ]] || source=$root/$source
-    for file in src--crates--node--src--p2p--download_window.rs.txt src--crates--node--src--p2p--download_window--policy.rs.txt; do
-        [[ -r $source/$file ]] || not_run "the Rust source is not at $source (set KOFUDILE_SOURCE)"
+# found_in FOLDER PATH: the file of that path in the original's repository, in the folder: a checkout of it (or a copy with .txt after each name), or
+# flat, as in the project's documents.
+found_in() {
+    local flat=${2//\//--} name
+    for name in "$2" "$2.txt" "$flat.txt" "src--$flat.txt"; do
+        [[ ! -r $1/$name ]] || { echo "$1/$name"; return; }
     done
-    KOFUDILE_SOURCE=$(cd "$source" && pwd)
-    export KOFUDILE_SOURCE
+    return 1
+}
+
+# The Rust's two files are in the folder KOFUDILE_SOURCE, or in the first of these that has them; a relative one counts from the repository's root.
+# Sets KOFUDILE_WINDOW and KOFUDILE_POLICY, the paths that the builds read.
+find_source() {
+    local folder folders=(../shared docs/src ../docs/src ../bitcoin-rs) module=crates/node/src/p2p/download_window
+    [[ -z ${KOFUDILE_SOURCE:-} ]] || folders=("$KOFUDILE_SOURCE")
+    for folder in "${folders[@]}"; do
+        [[ $folder = /* ]] || folder=$root/$folder
+        KOFUDILE_WINDOW=$(found_in "$folder" "$module.rs") && KOFUDILE_POLICY=$(found_in "$folder" "$module/policy.rs") || continue
+        export KOFUDILE_WINDOW KOFUDILE_POLICY
+        return
+    done
+    not_run "the Rust source is not in ${folders[*]} (set KOFUDILE_SOURCE)"
 }
 
 build() {

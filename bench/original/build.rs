@@ -7,17 +7,16 @@ use std::path::Path;
 #[path = "../../oracle/original/substitutions.rs"]
 #[allow(dead_code)]
 mod substitutions;
-use substitutions::{POLICY, WINDOW, substituted};
+use substitutions::{POLICY, WINDOW, path_of, substituted};
 
 fn main() -> Result<(), String> {
-    println!("cargo::rerun-if-env-changed=KOFUDILE_SOURCE");
     println!("cargo::rerun-if-changed=../build.rs");
     println!("cargo::rerun-if-changed=../../../oracle/original/substitutions.rs");
-    let source = env::var("KOFUDILE_SOURCE").map_err(|_| "KOFUDILE_SOURCE is not set: run bench/run")?;
     let out = env::var("OUT_DIR").map_err(|error| error.to_string())?;
     for (file, name) in [(WINDOW, "download_window.rs"), (POLICY, "policy.rs")] {
-        println!("cargo::rerun-if-changed={source}/{file}");
-        let mut text = substituted(Path::new(&source), file)?;
+        println!("cargo::rerun-if-env-changed={file}");
+        println!("cargo::rerun-if-changed={}", path_of(file)?);
+        let mut text = substituted(file)?;
         if file == WINDOW && env::var("CARGO_FEATURE_CHEAP_HASHER").is_ok() {
             text = with_cheap_maps(&text)?;
         }

@@ -7,17 +7,16 @@ use std::path::Path;
 #[path = "substitutions.rs"]
 #[allow(dead_code)]
 mod substitutions;
-use substitutions::{POLICY, WINDOW, substituted};
+use substitutions::{POLICY, WINDOW, path_of, substituted};
 
 fn main() -> Result<(), String> {
-    println!("cargo::rerun-if-env-changed=KOFUDILE_SOURCE");
     println!("cargo::rerun-if-changed=../substitutions.rs");
     println!("cargo::rerun-if-changed=../build.rs");
-    let source = env::var("KOFUDILE_SOURCE").map_err(|_| "KOFUDILE_SOURCE is not set: run the commands in oracle/")?;
     let out = env::var("OUT_DIR").map_err(|error| error.to_string())?;
     for (file, name) in [(WINDOW, "download_window.rs"), (POLICY, "policy.rs")] {
-        println!("cargo::rerun-if-changed={source}/{file}");
-        let text = substituted(Path::new(&source), file)?;
+        println!("cargo::rerun-if-env-changed={file}");
+        println!("cargo::rerun-if-changed={}", path_of(file)?);
+        let text = substituted(file)?;
         fs::write(Path::new(&out).join(name), text).map_err(|error| error.to_string())?;
     }
     Ok(())

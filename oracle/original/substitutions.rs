@@ -1,13 +1,13 @@
 //! Every change made to the original's text before it is built: the one place that lists them.
 //!
-//! The original is read from KOFUDILE_SOURCE at build time. A substitution whose left side does not
-//! occur exactly as often as stated fails the build.
+//! The original is read at build time. A substitution whose left side does not occur exactly as often as stated fails the build.
 
+use std::env;
 use std::fs;
-use std::path::Path;
 
-pub const WINDOW: &str = "src--crates--node--src--p2p--download_window.rs.txt";
-pub const POLICY: &str = "src--crates--node--src--p2p--download_window--policy.rs.txt";
+/// The original's two files, each by the setting that holds its path: `find_source` of oracle/common.sh sets both.
+pub const WINDOW: &str = "KOFUDILE_WINDOW";
+pub const POLICY: &str = "KOFUDILE_POLICY";
 
 pub enum Change {
     /// Puts a line before the file's first.
@@ -125,10 +125,15 @@ fn apply(text: &str, change: &Change) -> Result<String, String> {
     }
 }
 
+/// Where one file of the original stands.
+pub fn path_of(file: &str) -> Result<String, String> {
+    env::var(file).map_err(|_| format!("{file} is not set: use the scripts"))
+}
+
 /// The text of one file of the original after its substitutions.
-pub fn substituted(folder: &Path, file: &str) -> Result<String, String> {
-    let path = folder.join(file);
-    let mut text = fs::read_to_string(&path).map_err(|error| format!("{}: {error}", path.display()))?;
+pub fn substituted(file: &str) -> Result<String, String> {
+    let path = path_of(file)?;
+    let mut text = fs::read_to_string(&path).map_err(|error| format!("{path}: {error}"))?;
     for substitution in SUBSTITUTIONS.iter().filter(|substitution| substitution.file == file) {
         text = apply(&text, &substitution.change)
             .map_err(|problem| format!("{file}: {problem} (substitution: {})", substitution.reason))?;

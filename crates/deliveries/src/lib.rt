@@ -12,6 +12,7 @@ ghost use Rattle.laws.specs.Whole.{Whole, Holds};
 ghost use Rattle.states.specs.Fits.{cold-fits};
 use lent_pace::Turn;
 use model::Fanout;
+use model::Front;
 use model::Hash;
 use model::Height;
 use model::Source;
@@ -56,13 +57,13 @@ pub fn progress_by(words: &mut [u64], height: Height, source: u64, h: Hash, cloc
     }
 }
 
-// The mean moves by `next-mean`, whether the body was asked for or not.
-pub fn move_mean(words: &mut [u64], bytes: u64)
+// The mean moves by `next-mean`, whether the body was asked for (then `front` is its entry) or not.
+pub fn move_mean(words: &mut [u64], front: Front, bytes: u64)
     requires { ⌜ Whole (now words) × ((window-of (now words) .mean ≤ max-estimate) × (bytes ≤ max-body)) ⌝ }
     ensures { λ _. ⌜ Holds (with-mean (next-mean (window-of (now (words .entry)) .mean) bytes) (window-of (now (words .entry)))) (now (words .exit)) ⌝ }
 {
     let m = state::get_mean(words);
-    let n = rules::next_mean(m, bytes);
+    let n = rules::mean_after(front, m, bytes);
     state::set_mean(words, n);
 }
 

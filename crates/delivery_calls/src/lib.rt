@@ -156,6 +156,6 @@ pub fn mark_received_from(
 {
     let front = queries::found(words, h);
     let n = take_delivered(words, gone, h, front, source, clock);
-    deliveries::move_mean(words, bytes);
+    deliveries::move_mean(words, front, bytes);
     received(front, n as u64)
 }

@@ -7,6 +7,7 @@ ghost use Rattle.model.specs.Numbers.{max-estimate, max-body};
 ghost use Rattle.model.specs.Hash.{same};
 ghost use Rattle.model.specs.Calls.{unless-observed, unless-stalled, unless-front, next-mean, is-young};
 use model::ColdFront;
+use model::Front;
 use model::Hash;
 use model::Observation;
 use model::Probe;
@@ -81,11 +82,19 @@ pub fn unless_front(h: Hash, source: u64, x: ColdFront) -> ColdFront
 }
 
 // `next-mean`: mean = max((7 × mean + bytes) / 8, 80)
-pub fn next_mean(mean: u64, bytes: u64) -> u64
+fn next_mean(mean: u64, bytes: u64) -> u64
     requires { ⌜ (mean ≤ max-estimate) × (bytes ≤ max-body) ⌝ }
     ensures { λ r. ⌜ r ≡ next-mean mean bytes ⌝ }
 {
     numbers::greater((mean * 7 + bytes) / 8, limits::MIN_ESTIMATE)
+}
+
+// The mean after a body, whether it was asked for (then `front` is its entry) or not: `next-mean`.
+pub fn mean_after(front: Front, mean: u64, bytes: u64) -> u64
+    requires { ⌜ (mean ≤ max-estimate) × (bytes ≤ max-body) ⌝ }
+    ensures { λ r. ⌜ r ≡ next-mean mean bytes ⌝ }
+{
+    next_mean(mean, bytes)
 }
 
 // `is-young`

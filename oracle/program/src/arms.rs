@@ -77,9 +77,9 @@ struct Block {
 pub fn run(places: &Places, calls: u64, seed: u64) -> Result<(usize, usize), String> {
     let folder = places.target.join("arms");
     fs::create_dir_all(&folder).map_err(|error| error.to_string())?;
-    let (text, blocks) = counted(&substituted(&places.source, WINDOW)?)?;
+    let (text, blocks) = counted(&substituted(WINDOW)?)?;
     fs::write(folder.join("download_window.rs"), text).map_err(|error| error.to_string())?;
-    fs::write(folder.join("policy.rs"), substituted(&places.source, POLICY)?).map_err(|error| error.to_string())?;
+    fs::write(folder.join("policy.rs"), substituted(POLICY)?).map_err(|error| error.to_string())?;
     let program = places.compile(&folder, "runners/arms.rs")?;
     let numbers = [calls, seed, blocks.len() as u64].map(|number| number.to_string());
     let output = Command::new(program).args(numbers).output().map_err(|error| error.to_string())?;

@@ -71,17 +71,17 @@ fn parse(line: &'static str) -> Mutant {
 
 fn try_mutant(places: &Places, mutant: &Mutant, calls: u64, seed: u64) -> Verdict {
     let folder = places.target.join("mutant");
-    match write(places, mutant, &folder).and_then(|()| places.compile(&folder, "runners/mutant.rs")) {
+    match write(mutant, &folder).and_then(|()| places.compile(&folder, "runners/mutant.rs")) {
         Ok(program) => drive(&program, calls, seed),
         Err(problem) => Verdict::NotBuilt(problem),
     }
 }
 
 /// Writes the two files with the one edit.
-fn write(places: &Places, mutant: &Mutant, folder: &Path) -> Result<(), String> {
+fn write(mutant: &Mutant, folder: &Path) -> Result<(), String> {
     fs::create_dir_all(folder).map_err(|error| error.to_string())?;
     for (file, name) in [(WINDOW, "download_window.rs"), (POLICY, "policy.rs")] {
-        let mut text = substituted(&places.source, file)?;
+        let mut text = substituted(file)?;
         if (mutant.function == "policy") == (file == POLICY) {
             text = edited(&text, mutant)?;
         }

@@ -1,11 +1,10 @@
-//! Where the source, the build and oracle/ are, and how a changed copy of the original is compiled.
+//! Where the build and oracle/ are, and how a changed copy of the original is compiled.
 
 use std::env;
 use std::path::{Path, PathBuf};
 use std::process::Command;
 
 pub struct Places {
-    pub source: PathBuf,
     pub target: PathBuf,
     pub here: PathBuf,
 }
@@ -15,7 +14,7 @@ impl Places {
     pub fn told() -> Self {
         let place =
             |name: &str| env::var(name).map(PathBuf::from).unwrap_or_else(|_| panic!("{name} is not set: use the scripts"));
-        Self { source: place("KOFUDILE_SOURCE"), target: place("ORACLE_TARGET"), here: place("ORACLE_HERE") }
+        Self { target: place("ORACLE_TARGET"), here: place("ORACLE_HERE") }
     }
 
     /// Compiles a runner over the copy of the original in `folder`: unoptimised, as most runs are short, and without

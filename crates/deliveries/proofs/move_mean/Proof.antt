@@ -12,8 +12,8 @@ use Rattle.deliveries.proofs.move_mean.Tie as tie
 get-mean-requires : tie.Need-get-mean-requires
 get-mean-requires c κs = search needs
 
-next-mean-requires : tie.Need-next-mean-requires
-next-mean-requires c κs = search needs
+mean-after-requires : tie.Need-mean-after-requires
+mean-after-requires c κs = search needs
 
 set-mean-requires : tie.Need-set-mean-requires
 set-mean-requires c κs = search needs
@@ -24,8 +24,8 @@ same-length c = search needs
 returns : tie.Need-returns
 returns c =
     let a = c .before .before .before .before .before .before .before .before .args in
-    by-value (λ n. with-mean n (window-of (a .words .now))) (c .before .before .before .before .next-mean .ensures ∙ ap (λ (m : ℕ). next-mean m (a .bytes)) (c .before .before .before .before .before .get-mean .ensures)) (c .before .before .set-mean .ensures)
+    by-value (λ n. with-mean n (window-of (a .words .now))) (c .before .before .before .before .mean-after .ensures ∙ ap (λ (m : ℕ). next-mean m (a .bytes)) (c .before .before .before .before .before .get-mean .ensures)) (c .before .before .set-mean .ensures)
 
 pub move-mean-spec : {M : Type 1} → statement M
 move-mean-spec =
-    tie.close (tie.spec get-mean-requires next-mean-requires set-mean-requires same-length returns)
+    tie.close (tie.spec get-mean-requires mean-after-requires set-mean-requires same-length returns)
