@@ -63,7 +63,7 @@ pub fn reject_delivery(
     source: Source,
     clock: u64,
 ) -> Rejected
-    requires { ⌜ Whole (now words) × (Sound clock (window-of (now words)) × (length (now gone) ≡ 2304)) ⌝ }
+    requires { ⌜ Whole (now words) × (Sound clock (window-of (now words)) × (9 ≤ length (now gone))) ⌝ }
     ensures { λ r. ⌜
         (rejected-says r ≡ says (length (reject-delivery h source clock (window-of (now (words .entry))) .gone)) (flag (is-owner source (found h (window-of (now (words .entry)) .queue .pending)))))
         × (Holds (reject-delivery h source clock (window-of (now (words .entry))) .window) (now (words .exit)))

@@ -35,17 +35,17 @@ abbrev pub places : Answer → ℕ
 places (refused n) = 0
 places (says n values) = n
 
--- the promise, of the answer a, the words that are left and the flat words of what went
-abbrev pub LetsGo : Change → List ℕ → ℕ → Answer → List ℕ → List ℕ → Type 0
-LetsGo x ws room a ws′ gone =
+-- the promise, of the answer a, the words that are left and the flat words of what went, which are as many as `size`
+abbrev pub LetsGo : ℕ → Change → List ℕ → ℕ → Answer → List ℕ → List ℕ → Type 0
+LetsGo size x ws room a ws′ gone =
     (a ≡ answer-after (changes x) ws room)
     × (ws′ ≡ words-after (changes x) ws room)
     × (releases-of (places a) gone ≡ gone-after (changes x) ws room)
     × (places a ≤ room)
-    × (places a ≤ 256)
+    × (9 * places a ≤ size)
 
-module _ (x : Change) (ws : List ℕ) (room n : ℕ) (e : n ≡ window-refusal (checks x) ws room) where
-  pub lets-refused : (gone : List ℕ) → (n ≡ 0 → ⊥) → LetsGo x ws room (refused n) ws gone
+module _ (size : ℕ) (x : Change) (ws : List ℕ) (room n : ℕ) (e : n ≡ window-refusal (checks x) ws room) where
+  pub lets-refused : (gone : List ℕ) → (n ≡ 0 → ⊥) → LetsGo size x ws room (refused n) ws gone
   unfolding releases-of
   lets-refused gone h = let l = leaves-refused (changes x) ws room n e h in (l .0, l .1, l .2, omega arith, omega arith)
 
@@ -55,9 +55,9 @@ module _ (x : Change) (ws : List ℕ) (room n : ℕ) (e : n ≡ window-refusal (
     unfolding report-ok
     enough = leb-true 256 room (subst (λ (b : Bool). report-ok b room ≡ true) goes (admitted (checks x) ws room n e z .passes .report))
 
-    module _ (k : ℕ) (gone : List ℕ) (few : k ≤ 256) where
+    module _ (k : ℕ) (gone : List ℕ) (few : k ≤ 256) (fit : 9 * k ≤ size) where
       lets-done : (ws′ : List ℕ) → Holds (changed x (window-of ws) .window) ws′ → releases-of k gone ≡ changed x (window-of ws) .gone
-          → (a : Answer) → a ≡ says k (changed x (window-of ws) .values) → LetsGo x ws room a ws′ gone
+          → (a : Answer) → a ≡ says k (changed x (window-of ws) .values) → LetsGo size x ws room a ws′ gone
       lets-done ws′ h g a q =
           let l = leaves-changed x ws room (sym z ∙ e) in
           let many : k ≡ length (changed x (window-of ws) .gone) = sym (length-releases k gone) ∙ ap length g in
@@ -66,12 +66,12 @@ module _ (x : Change) (ws : List ℕ) (room n : ℕ) (e : n ≡ window-refusal (
             h .words ∙ l .1,
             ap (λ (j : ℕ). releases-of j gone) same ∙ g ∙ l .2,
             omega (arith, same, few, enough),
-            omega (arith, same, few),
+            omega (arith, same, fit),
           )
 
       -- with a clock: the step, then the clock
       pub lets-at : (c : ℕ) → checks x .moment ≡ at c → (ws₁ ws₂ : List ℕ) → Holds (change x c (window-of ws) .window) ws₁ → Holds (with-clock c (window-of ws₁)) ws₂
-          → releases-of k gone ≡ change x c (window-of ws) .gone → (a : Answer) → a ≡ says k (change x c (window-of ws) .values) → LetsGo x ws room a ws₂ gone
+          → releases-of k gone ≡ change x c (window-of ws) .gone → (a : Answer) → a ≡ says k (change x c (window-of ws) .values) → LetsGo size x ws room a ws₂ gone
       unfolding changed read-clock
       lets-at c m ws₁ ws₂ h s g a q =
           let now : moment-of (checks x .moment) (window-of ws .clock) ≡ c = ap (λ (y : Moment). moment-of y (window-of ws .clock)) m in
@@ -85,7 +85,7 @@ module _ (x : Change) (ws : List ℕ) (room n : ℕ) (e : n ≡ window-refusal (
       -- without one: a step that leaves the clock
       pub lets-timeless : checks x .moment ≡ timeless → (ws₁ : List ℕ) → Holds (change x (window-of ws .clock) (window-of ws) .window) ws₁
           → change x (window-of ws .clock) (window-of ws) .window .clock ≡ window-of ws .clock
-          → releases-of k gone ≡ change x (window-of ws .clock) (window-of ws) .gone → (a : Answer) → a ≡ says k (change x (window-of ws .clock) (window-of ws) .values) → LetsGo x ws room a ws₁ gone
+          → releases-of k gone ≡ change x (window-of ws .clock) (window-of ws) .gone → (a : Answer) → a ≡ says k (change x (window-of ws .clock) (window-of ws) .values) → LetsGo size x ws room a ws₁ gone
       unfolding changed
       lets-timeless m ws₁ h kept g a q =
           let last = window-of ws .clock in
@@ -101,11 +101,11 @@ module _ (x : Change) (ws : List ℕ) (room n : ℕ) (e : n ≡ window-refusal (
 
 -- ---- a single removal lets go at most one
 
-one-out : (reason now : ℕ) (f : Front) (w : Window) → length (take-out reason now f w .gone) ≤ 256
+one-out : (reason now : ℕ) (f : Front) (w : Window) → length (take-out reason now f w .gone) ≤ 1
 one-out reason now Nothing w = omega arith
 one-out reason now (At e) w = omega arith
 
-pub rejected-few : (h : Hash) (source : Source) (now : ℕ) (w : Window) → length (reject-delivery h source now w .gone) ≤ 256
+pub rejected-few : (h : Hash) (source : Source) (now : ℕ) (w : Window) → length (reject-delivery h source now w .gone) ≤ 1
 unfolding reject-delivery remove-pending
 rejected-few h source now w =
     let v = rejected-by source h w in
@@ -126,9 +126,9 @@ retain-clock flags w =
 
 -- ---- with the report: m releases are written in its first places
 
-module _ (x : Change) (ws : List ℕ) (xs : List Release) (a : Answer) (zs gs : List ℕ) (e : LetsGo x ws (length xs) a zs gs) (m : ℕ) (q : m ≡ places a) where
+module _ (size : ℕ) (x : Change) (ws : List ℕ) (xs : List Release) (a : Answer) (zs gs : List ℕ) (e : LetsGo size x ws (length xs) a zs gs) (m : ℕ) (q : m ≡ places a) where
   -- the writer has room, and words to read
-  pub lets-fewer : length gs ≡ 2304 → (m ≤ length xs) × (9 * m ≤ length gs)
+  pub lets-fewer : length gs ≡ size → (m ≤ length xs) × (9 * m ≤ length gs)
   lets-fewer l = (omega (arith, q, e .3), omega (arith, q, e .4, l))
 
   pub lets-performs : (ys : List Release) → ys ≡ releases-of m gs ++ drop m xs

@@ -1,8 +1,8 @@
 // The calls that let go, with their refusals, in lent words. What went is written, nine words each, in `gone`: the public call writes the lent report
-// from it. `room` is that report's length.
+// from it. `room` is that report's length. A call that lets go one entry at most asks for nine words, the others for 256 times nine.
 ghost use mathlib.Core.Path.{_≡_};
 ghost use mathlib.Core.List.{[]};
-ghost use Prim.Native.Nat.{_≤_};
+ghost use Prim.Native.Nat.{_≤_, _*_};
 ghost use lib.ListN.{length};
 ghost use Rattle.model.specs.Refusals.{changes, releases, requeues, rejects, expires, retires, retains, credits, receives};
 ghost use Rattle.model.specs.Perform.{says, answer-after, words-after, gone-after};
@@ -39,13 +39,13 @@ pub fn release_pending(
     h: Hash,
     clock: u64,
 ) -> LetGo
-    requires { ⌜ length (now gone) ≡ 2304 ⌝ }
+    requires { ⌜ length (now gone) ≡ 9 ⌝ }
     ensures { λ r. ⌜
         (let-go-says r ≡ answer-after (changes (releases clock h)) (now (words .entry)) room)
         × (now (words .exit) ≡ words-after (changes (releases clock h)) (now (words .entry)) room)
         × (releases-of (places (let-go-says r)) (now (gone .exit)) ≡ gone-after (changes (releases clock h)) (now (words .entry)) room)
         × (places (let-go-says r) ≤ room)
-        × (places (let-go-says r) ≤ 256)
+        × (9 * places (let-go-says r) ≤ length (now (gone .entry)))
         ⌝ }
 {
     let k = admission::report_refused_by(words, room, clock, true);
@@ -65,13 +65,13 @@ pub fn requeue_for_retry(
     named: Height32,
     clock: u64,
 ) -> LetGo
-    requires { ⌜ length (now gone) ≡ 2304 ⌝ }
+    requires { ⌜ length (now gone) ≡ 9 ⌝ }
     ensures { λ r. ⌜
         (let-go-says r ≡ answer-after (changes (requeues clock h (wide named))) (now (words .entry)) room)
         × (now (words .exit) ≡ words-after (changes (requeues clock h (wide named))) (now (words .entry)) room)
         × (releases-of (places (let-go-says r)) (now (gone .exit)) ≡ gone-after (changes (requeues clock h (wide named))) (now (words .entry)) room)
         × (places (let-go-says r) ≤ room)
-        × (places (let-go-says r) ≤ 256)
+        × (9 * places (let-go-says r) ≤ length (now (gone .entry)))
         ⌝ }
 {
     let k = admission::report_refused_by(words, room, clock, true);
@@ -92,13 +92,13 @@ pub fn reject_delivery(
     source: Source,
     clock: u64,
 ) -> Rejected
-    requires { ⌜ length (now gone) ≡ 2304 ⌝ }
+    requires { ⌜ length (now gone) ≡ 9 ⌝ }
     ensures { λ r. ⌜
         (rejected-says r ≡ answer-after (changes (rejects clock h source)) (now (words .entry)) room)
         × (now (words .exit) ≡ words-after (changes (rejects clock h source)) (now (words .entry)) room)
         × (releases-of (places (rejected-says r)) (now (gone .exit)) ≡ gone-after (changes (rejects clock h source)) (now (words .entry)) room)
         × (places (rejected-says r) ≤ room)
-        × (places (rejected-says r) ≤ 256)
+        × (9 * places (rejected-says r) ≤ length (now (gone .entry)))
         ⌝ }
 {
     let p = admission::source_ok(source);
@@ -119,7 +119,7 @@ pub fn expire_pending(words: &mut [u64], room: usize, gone: &mut [u64], clock: u
         × (now (words .exit) ≡ words-after (changes (expires clock)) (now (words .entry)) room)
         × (releases-of (places (let-go-says r)) (now (gone .exit)) ≡ gone-after (changes (expires clock)) (now (words .entry)) room)
         × (places (let-go-says r) ≤ room)
-        × (places (let-go-says r) ≤ 256)
+        × (9 * places (let-go-says r) ≤ length (now (gone .entry)))
         ⌝ }
 {
     let k = admission::report_refused_by(words, room, clock, true);
@@ -144,7 +144,7 @@ pub fn retire_before(
         × (now (words .exit) ≡ words-after (changes (retires clock height)) (now (words .entry)) room)
         × (releases-of (places (let-go-says r)) (now (gone .exit)) ≡ gone-after (changes (retires clock height)) (now (words .entry)) room)
         × (places (let-go-says r) ≤ room)
-        × (places (let-go-says r) ≤ 256)
+        × (9 * places (let-go-says r) ≤ length (now (gone .entry)))
         ⌝ }
 {
     let k = admission::report_refused_by(words, room, clock, true);
@@ -163,7 +163,7 @@ pub fn retain_owned_by(words: &mut [u64], room: usize, gone: &mut [u64], flags: 
         × (now (words .exit) ≡ words-after (changes (retains (now (flags .entry)))) (now (words .entry)) room)
         × (releases-of (places (let-go-says r)) (now (gone .exit)) ≡ gone-after (changes (retains (now (flags .entry)))) (now (words .entry)) room)
         × (places (let-go-says r) ≤ room)
-        × (places (let-go-says r) ≤ 256)
+        × (9 * places (let-go-says r) ≤ length (now (gone .entry)))
         ⌝ }
 {
     let k = admission::timeless_report_refused_by(words, room, flags.len() == sizes::SEATS);
@@ -192,7 +192,7 @@ pub fn credit_delivery_from(
         × (now (words .exit) ≡ words-after (changes (credits clock h source (wide height))) (now (words .entry)) room)
         × (releases-of (places (let-go-says r)) (now (gone .exit)) ≡ gone-after (changes (credits clock h source (wide height))) (now (words .entry)) room)
         × (places (let-go-says r) ≤ room)
-        × (places (let-go-says r) ≤ 256)
+        × (9 * places (let-go-says r) ≤ length (now (gone .entry)))
         ⌝ }
 {
     let k = admission::report_refused_by(words, room, clock, source <= limits::MAX_SEAT);
@@ -220,7 +220,7 @@ pub fn mark_received_from(
         × (now (words .exit) ≡ words-after (changes (receives clock h bytes source)) (now (words .entry)) room)
         × (releases-of (places (received-says r)) (now (gone .exit)) ≡ gone-after (changes (receives clock h bytes source)) (now (words .entry)) room)
         × (places (received-says r) ≤ room)
-        × (places (received-says r) ≤ 256)
+        × (9 * places (received-says r) ≤ length (now (gone .entry)))
         ⌝ }
 {
     let p = admission::source_ok(source);

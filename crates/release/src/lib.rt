@@ -37,7 +37,7 @@ pub fn remove_pending(
     reason: u64,
     clock: u64,
 ) -> usize
-    requires { ⌜ Whole (now words) × (Sound clock (window-of (now words)) × (length (now gone) ≡ 2304)) ⌝ }
+    requires { ⌜ Whole (now words) × (Sound clock (window-of (now words)) × (9 ≤ length (now gone))) ⌝ }
     ensures { λ r. ⌜
         (r ≤ 1)
         × (Holds (remove-pending h reason clock (window-of (now (words .entry))) .window) (now (words .exit)))
@@ -60,7 +60,7 @@ pub fn remove_pending(
 
 // `release-pending`
 pub fn release_pending(words: &mut [u64], gone: &mut [u64], h: Hash, clock: u64) -> usize
-    requires { ⌜ Whole (now words) × (Sound clock (window-of (now words)) × (length (now gone) ≡ 2304)) ⌝ }
+    requires { ⌜ Whole (now words) × (Sound clock (window-of (now words)) × (9 ≤ length (now gone))) ⌝ }
     ensures { λ r. ⌜
         (r ≤ 1)
         × (Holds (release-pending h clock (window-of (now (words .entry))) .window) (now (words .exit)))
@@ -93,7 +93,7 @@ pub fn requeue_for_retry(
     named: Height,
     clock: u64,
 ) -> usize
-    requires { ⌜ Whole (now words) × (Sound clock (window-of (now words)) × (length (now gone) ≡ 2304)) ⌝ }
+    requires { ⌜ Whole (now words) × (Sound clock (window-of (now words)) × (9 ≤ length (now gone))) ⌝ }
     ensures { λ r. ⌜
         (r ≤ 1)
         × (Holds (requeue-for-retry h named clock (window-of (now (words .entry))) .window) (now (words .exit)))

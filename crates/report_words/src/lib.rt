@@ -2,7 +2,7 @@
 ghost use mathlib.Core.Path.{_≡_};
 ghost use mathlib.Core.List.{_++_, _∷_, []};
 ghost use mathlib.Core.Bool.{_||_};
-ghost use Prim.Native.Nat.{_-_, _<_, _≤_, suc};
+ghost use Prim.Native.Nat.{_+_, _-_, _*_, _<_, _≤_, suc};
 ghost use lib.ListN.{length, take};
 ghost use Rattle.model.specs.Lists.{any};
 ghost use Rattle.model.specs.Reasons.{lowered, release};
@@ -39,9 +39,9 @@ pub fn nine(e: Entry, reason: u64) -> [u64; sizes::RELEASE_WORDS]
     ]
 }
 
-// Writes a release after the first `n`.
+// Writes a release after the first `n`, where there is room for its nine words.
 pub fn put_release(gone: &mut [u64], n: usize, e: Entry, reason: u64)
-    requires { ⌜ (length (now gone) ≡ 2304) × (n < 256) ⌝ }
+    requires { ⌜ 9 * n + 9 ≤ length (now gone) ⌝ }
     ensures { λ _. ⌜ releases-of (suc n) (now (gone .exit)) ≡ releases-of n (now (gone .entry)) ++ (release e reason ∷ []) ⌝ }
 {
     let l = nine(e, reason);

@@ -8,6 +8,7 @@ use Rattle.laws.specs.Sound.{Sound}
 use Rattle.laws.specs.Whole.{Holds}
 use Rattle.delivery_calls.specs.Receives.{delivered, removed-sound, taken-window, taken-gone, taken-room}
 use borrow.Author.Needs.{needs}
+use native.Mathlib.Omega.{arith}
 use Rattle.delivery_calls.proofs.take_delivered.Statement.{statement}
 use Rattle.delivery_calls.proofs.take_delivered.Tie as tie
 
@@ -17,7 +18,7 @@ height-of-requires c κs = search needs
 remove-pending-requires : tie.Need-remove-pending-requires
 remove-pending-requires c κs =
     let s = c .before .before .before .before .before in
-    (s .pre .0, (s .pre .1 .0, s .pre .1 .1 .0))
+    (s .pre .0, (s .pre .1 .0, omega (arith, s .pre .1 .1 .0)))
 
 credit-by-requires : tie.Need-credit-by-requires
 credit-by-requires c κs =

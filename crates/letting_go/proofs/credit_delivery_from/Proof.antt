@@ -2,6 +2,7 @@
 use mathlib.Core.Path.{_≡_, refl, sym, subst}
 use Prim.Native.Nat.{ℕ, _≤_}
 use native.Mathlib.Omega.{arith}
+use lib.ListN.{length}
 use borrow.Author.Needs.{needs}
 use Rattle.model.specs.Numbers.{read-clock}
 use Rattle.model.specs.Refusals.{Change, checks, credits}
@@ -29,7 +30,7 @@ returns c =
     let ws = a .words .now in
     let x : Change = credits (a .clock) (a .h) (a .source) (wide (a .height)) in
     let k = c .before .report-refused-by in
-    lets-refused x ws (a .room) (k .result) (k .ensures) (a .gone .now) (c .if1 .taken)
+    lets-refused (length (a .gone .now)) x ws (a .room) (k .result) (k .ensures) (a .gone .now) (c .if1 .taken)
 
 widened-requires : tie.Need-widened-requires
 widened-requires c κs = search needs
@@ -63,7 +64,7 @@ returns-2 c =
     let s = c .before .before .gone-at in
     let height = c .before .before .before .before .before .before .before .before .before .before .before .widened .result in
     let named : height ≡ wide (a .height) = c .before .before .before .before .before .before .before .before .before .before .before .widened .ensures .0 in
-    lets-at x ws (a .room) (k .result) (k .ensures) (c .before .before .before .before .before .before .before .before .before .before .before .before .if1 .left) refl (p .result) (p .last .1 .0) (omega (arith, p .ensures .0)) (a .clock) refl (p .last .0) (s .last .0)
+    lets-at (length (a .gone .now)) x ws (a .room) (k .result) (k .ensures) (c .before .before .before .before .before .before .before .before .before .before .before .before .if1 .left) refl (p .result) (p .last .1 .0) (omega (arith, p .ensures .0)) (omega (arith, p .ensures .0)) (a .clock) refl (p .last .0) (s .last .0)
     (subst (λ (y : Height). Holds (credit-delivery-from (a .h) (a .source) y (a .clock) (window-of ws) .window) (p .last .0)) named (p .ensures .1)) (s .ensures .1)
     (subst (λ (y : Height). releases-of (p .result) (p .last .1 .0) ≡ credit-delivery-from (a .h) (a .source) y (a .clock) (window-of ws) .gone) named (p .ensures .2)) _ (s .ensures .0)
 

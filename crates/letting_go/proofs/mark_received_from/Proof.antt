@@ -31,7 +31,7 @@ returns c =
     let x : Change = receives (a .clock) (a .h) (a .bytes) (a .source) in
     let k = c .before .body-refused-by in
     let e = subst (λ (p : Bool). k .result ≡ window-refusal (checking true (at (a .clock)) p (body-refusal (a .bytes))) ws (a .room)) (c .before .before .before .source-ok .ensures) (k .ensures) in
-    lets-refused x ws (a .room) (k .result) e (a .gone .now) (c .if1 .taken)
+    lets-refused (length (a .gone .now)) x ws (a .room) (k .result) e (a .gone .now) (c .if1 .taken)
 
 mark-received-from-requires : tie.Need-mark-received-from-requires
 unfolding read-clock
@@ -63,7 +63,7 @@ returns-2 c =
     let p = c .before .before .before .before .before .before .before .before .mark-received-from in
     let s = c .before .before .set-clock in
     let went = length (mark-received-from (a .h) (a .bytes) (a .source) (a .clock) (window-of ws) .gone) in
-    lets-at x ws (a .room) (k .result) e (c .before .before .before .before .before .before .before .before .before .before .before .if1 .left) refl went (p .last .1 .0) (p .ensures .1) (a .clock) refl (p .last .0) (s .last .0) (p .ensures .2) (s .ensures) (p .ensures .3) _ (p .ensures .0)
+    lets-at (length (a .gone .now)) x ws (a .room) (k .result) e (c .before .before .before .before .before .before .before .before .before .before .before .if1 .left) refl went (p .last .1 .0) (p .ensures .1) (omega (arith, p .ensures .1)) (a .clock) refl (p .last .0) (s .last .0) (p .ensures .2) (s .ensures) (p .ensures .3) _ (p .ensures .0)
 
 pub mark-received-from-spec : {M : Type 1} → statement M
 mark-received-from-spec = tie.close (tie.spec source-ok-requires body-refused-by-requires same-length returns mark-received-from-requires set-clock-requires same-length-2 same-length-3 returns-2)

@@ -31,7 +31,7 @@ returns c =
     let x : Change = rejects (a .clock) (a .h) (a .source) in
     let k = c .before .report-refused-by in
     let e = subst (λ (p : Bool). k .result ≡ window-refusal (checking true (at (a .clock)) p nothing) ws (a .room)) (c .before .before .before .source-ok .ensures) (k .ensures) in
-    lets-refused x ws (a .room) (k .result) e (a .gone .now) (c .if1 .taken)
+    lets-refused (length (a .gone .now)) x ws (a .room) (k .result) e (a .gone .now) (c .if1 .taken)
 
 reject-delivery-requires : tie.Need-reject-delivery-requires
 unfolding read-clock
@@ -42,7 +42,7 @@ reject-delivery-requires c κs =
     let k = c .before .before .before .report-refused-by in
     let e = subst (λ (p : Bool). k .result ≡ window-refusal (checking true (at (a .clock)) p nothing) ws (a .room)) (c .before .before .before .before .before .source-ok .ensures) (k .ensures) in
     let g = admitted (checks x) ws (a .room) (k .result) e (c .before .before .if1 .left) in
-    (g .whole, (g .sound-at, c .before .before .before .before .before .before .before .before .pre))
+    (g .whole, (g .sound-at, omega (arith, c .before .before .before .before .before .before .before .before .pre)))
 
 set-clock-requires : tie.Need-set-clock-requires
 set-clock-requires c κs = c .before .before .before .before .before .reject-delivery .ensures .1 .whole
@@ -63,7 +63,8 @@ returns-2 c =
     let p = c .before .before .before .before .before .before .before .before .reject-delivery in
     let s = c .before .before .set-clock in
     let went = length (reject-delivery (a .h) (a .source) (a .clock) (window-of ws) .gone) in
-    lets-at x ws (a .room) (k .result) e (c .before .before .before .before .before .before .before .before .before .before .before .if1 .left) refl went (p .last .1 .0) (rejected-few (a .h) (a .source) (a .clock) (window-of ws)) (a .clock) refl (p .last .0) (s .last .0) (p .ensures .1) (s .ensures) (p .ensures .2) _ (p .ensures .0)
+    let few = rejected-few (a .h) (a .source) (a .clock) (window-of ws) in
+    lets-at (length (a .gone .now)) x ws (a .room) (k .result) e (c .before .before .before .before .before .before .before .before .before .before .before .if1 .left) refl went (p .last .1 .0) (omega (arith, few)) (omega (arith, few)) (a .clock) refl (p .last .0) (s .last .0) (p .ensures .1) (s .ensures) (p .ensures .2) _ (p .ensures .0)
 
 pub reject-delivery-spec : {M : Type 1} → statement M
 reject-delivery-spec = tie.close (tie.spec source-ok-requires report-refused-by-requires same-length returns reject-delivery-requires set-clock-requires same-length-2 same-length-3 returns-2)

@@ -2,6 +2,7 @@
 use mathlib.Core.Path.{_≡_, refl, sym, subst}
 use Prim.Native.Nat.{ℕ, _≤_}
 use native.Mathlib.Omega.{arith}
+use lib.ListN.{length}
 use borrow.Author.Needs.{needs}
 use Rattle.model.specs.Numbers.{read-clock}
 use Rattle.model.specs.Refusals.{Change, checks, requeues}
@@ -28,7 +29,7 @@ returns c =
     let ws = a .words .now in
     let x : Change = requeues (a .clock) (a .h) (wide (a .named)) in
     let k = c .before .report-refused-by in
-    lets-refused x ws (a .room) (k .result) (k .ensures) (a .gone .now) (c .if1 .taken)
+    lets-refused (length (a .gone .now)) x ws (a .room) (k .result) (k .ensures) (a .gone .now) (c .if1 .taken)
 
 widened-requires : tie.Need-widened-requires
 widened-requires c κs = search needs
@@ -41,7 +42,7 @@ requeue-for-retry-requires c κs =
     let x : Change = requeues (a .clock) (a .h) (wide (a .named)) in
     let k = c .before .before .before .before .report-refused-by in
     let g = admitted (checks x) ws (a .room) (k .result) (k .ensures) (c .before .before .before .if1 .left) in
-    (g .whole, (g .sound-at, c .before .before .before .before .before .before .before .before .pre))
+    (g .whole, (g .sound-at, omega (arith, c .before .before .before .before .before .before .before .before .pre)))
 
 gone-at-requires : tie.Need-gone-at-requires
 gone-at-requires c κs = c .before .before .before .before .before .requeue-for-retry .ensures .1 .whole
@@ -62,7 +63,7 @@ returns-2 c =
     let s = c .before .before .gone-at in
     let height = c .before .before .before .before .before .before .before .before .before .before .before .widened .result in
     let named : height ≡ wide (a .named) = c .before .before .before .before .before .before .before .before .before .before .before .widened .ensures .0 in
-    lets-at x ws (a .room) (k .result) (k .ensures) (c .before .before .before .before .before .before .before .before .before .before .before .before .if1 .left) refl (p .result) (p .last .1 .0) (omega (arith, p .ensures .0)) (a .clock) refl (p .last .0) (s .last .0)
+    lets-at (length (a .gone .now)) x ws (a .room) (k .result) (k .ensures) (c .before .before .before .before .before .before .before .before .before .before .before .before .if1 .left) refl (p .result) (p .last .1 .0) (omega (arith, p .ensures .0)) (omega (arith, p .ensures .0)) (a .clock) refl (p .last .0) (s .last .0)
     (subst (λ (y : Height). Holds (requeue-for-retry (a .h) y (a .clock) (window-of ws) .window) (p .last .0)) named (p .ensures .1)) (s .ensures .1)
     (subst (λ (y : Height). releases-of (p .result) (p .last .1 .0) ≡ requeue-for-retry (a .h) y (a .clock) (window-of ws) .gone) named (p .ensures .2)) _ (s .ensures .0)
 

@@ -25,7 +25,7 @@ returns c =
     let ws = a .words .now in
     let x : Change = retains (a .flags .now) in
     let k = c .before .timeless-report-refused-by in
-    lets-refused x ws (a .room) (k .result) (k .ensures) (a .gone .now) (c .if1 .taken)
+    lets-refused (length (a .gone .now)) x ws (a .room) (k .result) (k .ensures) (a .gone .now) (c .if1 .taken)
 
 retain-owned-by-requires : tie.Need-retain-owned-by-requires
 retain-owned-by-requires c κs =
@@ -50,7 +50,7 @@ returns-2 c =
     let x : Change = retains (a .flags .now) in
     let k = c .before .before .before .before .before .before .before .before .timeless-report-refused-by in
     let p = c .before .before .before .before .retain-owned-by in
-    lets-timeless x ws (a .room) (k .result) (k .ensures) (c .before .before .before .before .before .before .before .if1 .left) refl (p .result) (p .last .1 .0) (p .ensures .0) refl (p .last .0) (p .ensures .1) (retain-clock (a .flags .now) (window-of ws)) (p .ensures .2) _ refl
+    lets-timeless (length (a .gone .now)) x ws (a .room) (k .result) (k .ensures) (c .before .before .before .before .before .before .before .if1 .left) refl (p .result) (p .last .1 .0) (p .ensures .0) (omega (arith, p .ensures .0)) refl (p .last .0) (p .ensures .1) (retain-clock (a .flags .now) (window-of ws)) (p .ensures .2) _ refl
 
 pub retain-owned-by-spec : {M : Type 1} → statement M
 retain-owned-by-spec = tie.close (tie.spec timeless-report-refused-by-requires same-length returns retain-owned-by-requires same-length-2 same-length-3 returns-2)
