@@ -1,6 +1,6 @@
 # make install [PREFIX=/usr/local] [DESTDIR=]   the header, the archive and kofudile.pc, under DESTDIR and PREFIX
 # make uninstall                                with the same PREFIX and DESTDIR: takes these three away
-# make example                                  builds include/example.c and runs it
+# make demo                                     builds include/example.c and runs it: a small host at work, by the archive in dist/
 # make dist                                     proves the C functions and writes dist/ anew (needs the Rattle kit)
 # make version                                  prints the header's version
 # Which archive is linked and installed: tools/library says it.
@@ -23,7 +23,7 @@ install:
 uninstall:
 	rm -f '$(to)/include/kofudile.h' '$(to)/lib/libkofudile.a' '$(to)/lib/pkgconfig/kofudile.pc'
 
-example:
+demo:
 	@mkdir -p target
 	@$(CC) $(CFLAGS) -Iinclude include/example.c -L'$(library)' -lkofudile -o target/example
 	@target/example
@@ -34,4 +34,4 @@ dist:
 version:
 	@echo $(version)
 
-.PHONY: help install uninstall example dist version
+.PHONY: help install uninstall demo dist version
