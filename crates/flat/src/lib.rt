@@ -22,7 +22,6 @@ use model::Requested;
 use model::Sought;
 use model::Source;
 use model::Truth;
-use model::sizes;
 
 #[repr(C)]
 pub struct FlatNumber {
@@ -94,7 +93,7 @@ pub struct FlatPlan {
 
 #[repr(C)]
 pub struct FlatHashes {
-    pub words: [u64; sizes::PLANNED_WORDS],
+    pub words: [u64; 32],
 }
 
 pub fn of_accepted(a: Accepted) -> u64
