@@ -21,7 +21,6 @@ use model::Requested;
 use model::Sought;
 use model::Source;
 use model::Truth;
-use model::sizes;
 use plans::PlanAnswer;
 
 #[repr(C)]
@@ -90,7 +89,7 @@ pub struct FlatPlan {
     pub owner: u64,
     pub count: u64,
     pub end_height: u64,
-    pub hashes: [u64; sizes::PLANNED_WORDS],
+    pub hashes: [u64; 32],
 }
 
 pub fn of_accepted(a: Accepted) -> u64
