@@ -2,24 +2,21 @@
 // The list is that of its two slices, of any length.
 ghost use mathlib.Core.Path.{_≡_};
 ghost use mathlib.Core.Bool.{true};
-ghost use Prim.Native.Nat.{_≤_};
-ghost use lib.ListN.{drop};
+ghost use Prim.Native.Nat.{_+_, _≤_};
+ghost use lib.ListN.{length, drop};
 ghost use Rattle.model.specs.Numbers.{max-seat};
-ghost use Rattle.model.specs.Window.{with-clock};
-ghost use Rattle.model.specs.Capacity.{has-request-capacity};
-ghost use Rattle.model.specs.Queries.{flag};
-ghost use Rattle.model.specs.Perform.{says};
 ghost use Rattle.model.specs.Says.{requested-says};
-ghost use Rattle.model.specs.Calls.{asks-in, mark-requested};
+ghost use Rattle.model.specs.Calls.{asks-in};
 ghost use Rattle.model.specs.Layout.{window-of, rising};
 ghost use Rattle.model.specs.Refusals.{listed-once, request-refusal};
-ghost use Rattle.laws.specs.Kept.{Requestable};
 ghost use Rattle.laws.specs.Sound.{Sound};
 ghost use Rattle.laws.specs.Whole.{Whole, Holds};
+ghost use Rattle.request_calls.specs.Answer.{tried, request-answer, request-window};
 ghost use Rattle.request_calls.specs.Listed.{listed, none-pending};
 use model::Hash;
 use model::Requested;
 use model::sizes;
+use records::Place;
 
 // ---- its list
 
@@ -72,15 +69,12 @@ fn none_pending(words: &[u64], hashes: &[u64], heights: &[u32]) -> bool
     true
 }
 
-// `request-refusal`: 7, then 8, or 0 for none. A list of many asks has a quick yes; the tests below take a time that grows with its square. The sum
-// of pending and listed is never made.
-pub fn request_refusal(words: &[u64], hashes: &[u64], heights: &[u32]) -> u64
+// `request-refusal`: 7, then 8, or 0 for none. The tests take a time that grows with the square of the list's length. The sum of pending and
+// listed is never made.
+fn request_refusal(words: &[u64], hashes: &[u64], heights: &[u32]) -> u64
     requires { ⌜ Whole (now words) × (rising (window-of (now words) .queue .pending) ≡ true) ⌝ }
     ensures { λ r. ⌜ r ≡ request-refusal (asks-in (now (hashes .entry)) (now (heights .entry))) (window-of (now (words .entry))) ⌝ }
 {
-    if request_order::quickly_good(words, hashes, heights) {
-        return 0;
-    }
     if !none_pending(words, hashes, heights) {
         return 7;
     }
@@ -95,9 +89,120 @@ pub fn request_refusal(words: &[u64], hashes: &[u64], heights: &[u32]) -> u64
     0
 }
 
+// ---- refused by its list, or done: the answer is `request-refusal`, and the words are left as `tried` says
+
+// Any list: its tests, then its entries one by one.
+fn request_each(
+    words: &mut [u64],
+    hashes: &[u64],
+    heights: &[u32],
+    owner: u64,
+    next: u32,
+    clock: u64,
+) -> u64
+    requires { ⌜ Whole (now words) × (Sound clock (window-of (now words)) × (owner ≤ max-seat)) ⌝ }
+    ensures { λ r. ⌜
+        (r ≡ request-refusal (asks-in (now (hashes .entry)) (now (heights .entry))) (window-of (now (words .entry))))
+        × Holds (tried r (asks-in (now (hashes .entry)) (now (heights .entry))) owner next clock (window-of (now (words .entry)))) (now (words .exit))
+        ⌝ }
+{
+    let k = request_refusal(words, hashes, heights);
+    if k != 0 {
+        return k;
+    }
+    requests::mark_requested(words, hashes, heights, owner, next, clock);
+    0
+}
+
+// A list of one: its hash is looked up once, and its entry goes in where that ended.
+fn request_one(
+    words: &mut [u64],
+    hashes: &[u64],
+    heights: &[u32],
+    m: usize,
+    owner: u64,
+    next: u32,
+    clock: u64,
+) -> u64
+    requires { ⌜
+        (Whole (now words) × (Sound clock (window-of (now words)) × (owner ≤ max-seat)))
+        × ((m ≡ length (window-of (now words) .queue .pending)) × (length (asks-in (now hashes) (now heights)) ≡ 1))
+        ⌝ }
+    ensures { λ r. ⌜
+        (r ≡ request-refusal (asks-in (now (hashes .entry)) (now (heights .entry))) (window-of (now (words .entry))))
+        × Holds (tried r (asks-in (now (hashes .entry)) (now (heights .entry))) owner next clock (window-of (now (words .entry)))) (now (words .exit))
+        ⌝ }
+{
+    let h = requests::hash_in(hashes, 0);
+    let p = state_queue::find(words, h);
+    match p {
+        Place::Here(_) => 7,
+        Place::Free(at) => {
+            if m >= sizes::PLACES {
+                return 8;
+            }
+            requests::mark_found(words, hashes, heights, at, owner, next, clock);
+            0
+        }
+    }
+}
+
+// A list of many: where the order of all rows is found, it is good, and is written in that order; else as any list.
+fn request_in_order(
+    words: &mut [u64],
+    hashes: &[u64],
+    heights: &[u32],
+    m: usize,
+    n: usize,
+    owner: u64,
+    next: u32,
+    clock: u64,
+) -> u64
+    requires { ⌜
+        (Whole (now words) × (Sound clock (window-of (now words)) × (owner ≤ max-seat)))
+        × ((m ≡ length (window-of (now words) .queue .pending)) × ((n ≡ length (asks-in (now hashes) (now heights))) × (m + n ≤ 256)))
+        ⌝ }
+    ensures { λ r. ⌜
+        (r ≡ request-refusal (asks-in (now (hashes .entry)) (now (heights .entry))) (window-of (now (words .entry))))
+        × Holds (tried r (asks-in (now (hashes .entry)) (now (heights .entry))) owner next clock (window-of (now (words .entry)))) (now (words .exit))
+        ⌝ }
+{
+    let mut order: [u64; sizes::PLACES] = [0; sizes::PLACES];
+    if request_order::find_order(&mut order, words, hashes, m, n) {
+        request_many::mark_in_order(words, hashes, heights, &order, m, n, owner, next, clock);
+        return 0;
+    }
+    request_each(words, hashes, heights, owner, next, clock)
+}
+
+fn request_list(
+    words: &mut [u64],
+    hashes: &[u64],
+    heights: &[u32],
+    owner: u64,
+    next: u32,
+    clock: u64,
+) -> u64
+    requires { ⌜ Whole (now words) × (Sound clock (window-of (now words)) × (owner ≤ max-seat)) ⌝ }
+    ensures { λ r. ⌜
+        (r ≡ request-refusal (asks-in (now (hashes .entry)) (now (heights .entry))) (window-of (now (words .entry))))
+        × Holds (tried r (asks-in (now (hashes .entry)) (now (heights .entry))) owner next clock (window-of (now (words .entry)))) (now (words .exit))
+        ⌝ }
+{
+    let n = requests::asked(hashes.len(), heights.len());
+    let m = state_queue::pending_count(words);
+    if n == 1 {
+        return request_one(words, hashes, heights, m, owner, next, clock);
+    }
+    if request_order::is_many(m, n) {
+        return request_in_order(words, hashes, heights, m, n, owner, next, clock);
+    }
+    request_each(words, hashes, heights, owner, next, clock)
+}
+
 // ---- the request
 
-// `mark-requested`, the capacity that it leaves, and its clock.
+// `mark-requested`, the capacity that it leaves, and its clock; where its list is refused, that number, and nothing changes.
 pub fn request(
     words: &mut [u64],
     owner: u64,
@@ -108,13 +213,16 @@ pub fn request(
     count_headroom: u64,
     clock: u64,
 ) -> Requested
-    requires { ⌜ Whole (now words) × (Sound clock (window-of (now words)) × (Requestable (asks-in (now hashes) (now heights)) (window-of (now words)) × (owner ≤ max-seat))) ⌝ }
+    requires { ⌜ Whole (now words) × (Sound clock (window-of (now words)) × (owner ≤ max-seat)) ⌝ }
     ensures { λ r. ⌜
-        (requested-says r ≡ says 0 (flag (has-request-capacity «byte_headroom» «count_headroom» (mark-requested (asks-in (now (hashes .entry)) (now (heights .entry))) owner next clock (window-of (now (words .entry)))))))
-        × Holds (with-clock clock (mark-requested (asks-in (now (hashes .entry)) (now (heights .entry))) owner next clock (window-of (now (words .entry))))) (now (words .exit))
+        (requested-says r ≡ request-answer «byte_headroom» «count_headroom» (asks-in (now (hashes .entry)) (now (heights .entry))) owner next clock (window-of (now (words .entry))))
+        × Holds (request-window (asks-in (now (hashes .entry)) (now (heights .entry))) owner next clock (window-of (now (words .entry)))) (now (words .exit))
         ⌝ }
 {
-    request_many::mark_requested(words, hashes, heights, owner, next, clock);
+    let k = request_list(words, hashes, heights, owner, next, clock);
+    if k != 0 {
+        return Requested::Refused(k);
+    }
     let room = queries::has_request_capacity(words, byte_headroom, count_headroom);
     state::set_clock(words, clock);
     if room {

@@ -125,7 +125,7 @@ fn fill_all(
 // ---- the request
 
 // `mark-requested`, in the order that was found.
-fn mark_in_order(
+pub fn mark_in_order(
     words: &mut [u64],
     hashes: &[u64],
     heights: &[u32],
@@ -146,50 +146,4 @@ fn mark_in_order(
     requests::forget_attempted(words, n);
     fill_all(words, hashes, heights, order, m, n, owner, clock);
     requests::close(words, n, owner, next as u64, clock);
-}
-
-// `mark-requested`, at once where the order is found, and else one by one.
-fn mark_many(
-    words: &mut [u64],
-    hashes: &[u64],
-    heights: &[u32],
-    m: usize,
-    n: usize,
-    owner: u64,
-    next: u32,
-    clock: u64,
-)
-    requires { ⌜
-        (Whole (now words) × (Sound clock (window-of (now words)) × (Requestable (asks-in (now hashes) (now heights)) (window-of (now words)) × (owner ≤ max-seat))))
-        × ((m ≡ length (window-of (now words) .queue .pending)) × (n ≡ length (asks-in (now hashes) (now heights))))
-        ⌝ }
-    ensures { λ _. ⌜ Holds (mark-requested (asks-in (now (hashes .entry)) (now (heights .entry))) owner next clock (window-of (now (words .entry)))) (now (words .exit)) ⌝ }
-{
-    let mut order: [u64; sizes::PLACES] = [0; sizes::PLACES];
-    if request_order::find_order(&mut order, words, hashes, m, n) {
-        mark_in_order(words, hashes, heights, &order, m, n, owner, next, clock);
-        return;
-    }
-    requests::mark_requested(words, hashes, heights, owner, next, clock);
-}
-
-// `mark-requested`
-pub fn mark_requested(
-    words: &mut [u64],
-    hashes: &[u64],
-    heights: &[u32],
-    owner: u64,
-    next: u32,
-    clock: u64,
-)
-    requires { ⌜ Whole (now words) × (Sound clock (window-of (now words)) × (Requestable (asks-in (now hashes) (now heights)) (window-of (now words)) × (owner ≤ max-seat))) ⌝ }
-    ensures { λ _. ⌜ Holds (mark-requested (asks-in (now (hashes .entry)) (now (heights .entry))) owner next clock (window-of (now (words .entry)))) (now (words .exit)) ⌝ }
-{
-    let n = requests::asked(hashes.len(), heights.len());
-    let m = state_queue::pending_count(words);
-    if request_order::is_many(m, n) {
-        mark_many(words, hashes, heights, m, n, owner, next, clock);
-        return;
-    }
-    requests::mark_requested(words, hashes, heights, owner, next, clock);
 }

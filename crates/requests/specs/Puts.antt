@@ -54,15 +54,14 @@ pub record Takes (h : Hash) (w : Window) : Type 0 where
   pub room : length (w .queue .pending) < 256
   pub bytes : w .queue .total + w .mean ≤ 18446744073709551615
 
--- the entry goes in where the search pointed
-pub put-so : (w : Window) (ws : List ℕ) (k : ℕ) (e e′ : Entry) (p : Place) → e ≡ e′ → k ≡ place-of p → Takes (e′ .hash) w → Finds (e′ .hash) (w .queue .pending) p
+-- the entry goes in where the search ended
+pub put-so : (w : Window) (ws : List ℕ) (k : ℕ) (e e′ : Entry) → e ≡ e′ → Takes (e′ .hash) w → Finds (e′ .hash) (w .queue .pending) (place.Free k)
     → Holds (entries-put (w .queue .total + e .estimate) (insertAt k e (w .queue .pending)) w) ws → Holds (with-queue (put e′ (w .queue)) w) ws
-put-so w ws k e e′ p q r t f h =
+put-so w ws k e e′ q t f h =
     let l = w .queue .pending in
     let n = w .queue .total in
-    by-value (λ x. with-queue x w) (put-is (place-of p) e′ (w .queue) (t .rises) (absent-free (e′ .hash) l p (t .rises) (t .absent) f))
-    (subst (λ (x : Entry). Holds (entries-put (n + x .estimate) (insertAt (place-of p) x l) w) ws) q
-    (subst (λ (j : ℕ). Holds (entries-put (n + e .estimate) (insertAt j e l) w) ws) r h))
+    by-value (λ x. with-queue x w) (put-is k e′ (w .queue) (t .rises) f)
+    (subst (λ (x : Entry). Holds (entries-put (n + x .estimate) (insertAt k x l) w) ws) q h)
 
 -- what the asks that are left ask of the queue
 pub record Ready (asks : List Ask) (q : Queue) : Type 0 where

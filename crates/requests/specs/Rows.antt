@@ -4,14 +4,18 @@ use mathlib.Core.Logic.{inl, inr}
 use mathlib.Core.Bool.{Bool, true, false, cond, not, _&&_}
 use mathlib.Core.List.{List, [], _∷_}
 use Prim.Native.Nat.{ℕ, zero, suc}
-use lib.ListN.{length}
+use native.Mathlib.Omega.{arith}
+use lib.ListN.{length, getD, drop}
 use lib.Dec.{eqb, eqb·suc-zero}
 use Rattle.model.specs.Numbers.{greater}
 use Rattle.model.specs.Window.{Window, with-queue, with-high, with-frontier, with-attempted}
 use Rattle.model.specs.Races.{is-empty}
-use Rattle.model.specs.Calls.{Ask, puts, raised, started, noted, mark-requested}
+use Rattle.model.specs.Records.{new-entry}
+use Rattle.model.specs.Calls.{Ask, asks-in, put, puts, raised, started, noted, mark-requested}
 use Rattle.model.specs.declared.Source.the-variants.{Missing}
+use Rattle.model.specs.declared.Hash.{Hash}
 use Rattle.laws.specs.Numbers.{both}
+use Rattle.requests.specs.Asks.{hash-in, ask-at, asks-drop}
 
 -- a list is empty when it has no elements
 pub empty-length : {A : Type 0} (l : List A) → is-empty l ≡ eqb (length l) 0
@@ -57,3 +61,21 @@ requested-row asks owner next now w =
     let same : (eqb (length (w .queue .pending)) 0 && not (eqb (length asks) 0)) ≡ (is-empty (w .queue .pending) && not (is-empty asks)) =
     λ i. sym (empty-length (w .queue .pending)) i && not (sym (empty-length asks) i) in
     row asks owner next now (forgotten (length asks) w) ∙ ap (λ (b : Bool). told asks owner next now (cond b (with-attempted Missing w) w)) same
+
+-- ---- a list of one
+
+one-left : {A : Type 0} (x : A) (l k : List A) → l ≡ x ∷ k → length l ≡ 1 → l ≡ x ∷ []
+one-left x l [] e n = e
+one-left x l (y ∷ k) e n = absurd (omega (arith, ap length e, n))
+
+module _ (hs ts : List ℕ) (one : length (asks-in hs ts) ≡ 1) where
+  pub one-ask : asks-in hs ts ≡ ask-at hs ts 0 ∷ []
+  one-ask = one-left (ask-at hs ts 0) (asks-in hs ts) (drop 1 (asks-in hs ts)) (asks-drop hs ts 0 (omega (arith, one))) one
+
+  -- one put is all
+  pub filled-one : (h : Hash) (owner now : ℕ) (w : Window) → h ≡ hash-in hs 0
+      → with-queue (put (new-entry h owner now (getD ts 0 0) (w .mean)) (w .queue)) w ≡ filled (asks-in hs ts) owner now w
+  unfolding puts
+  filled-one h owner now w e =
+      ap (λ (g : Hash). with-queue (put (new-entry g owner now (getD ts 0 0) (w .mean)) (w .queue)) w) e
+      ∙ ap (λ (l : List Ask). filled l owner now w) (sym one-ask)

@@ -10,6 +10,8 @@ ghost use Rattle.model.specs.Window.{with-queue};
 ghost use Rattle.laws.specs.Kept.{Requestable};
 ghost use Rattle.laws.specs.Sound.{Sound};
 ghost use Rattle.laws.specs.Whole.{Whole, Holds};
+ghost use Rattle.records.specs.Places.{Finds};
+ghost use Rattle.records.specs.declared.Place.the-variants.{Free};
 ghost use Rattle.requests.specs.Asks.{hash-in};
 ghost use Rattle.requests.specs.Puts.{place-of, Takes, Ready};
 ghost use Rattle.requests.specs.Rows.{forgotten, waits, risen, closed, filled};
@@ -43,16 +45,24 @@ fn place_of(p: Place) -> usize
     }
 }
 
-// `put` of an entry whose hash is absent; its estimate is the mean.
-pub fn put_one(words: &mut [u64], h: Hash, owner: u64, height: u64, clock: u64)
-    requires { ⌜ Whole (now words) × Takes h (window-of (now words)) ⌝ }
+// `put` of an entry whose hash is absent, at the place where a search for it ended; its estimate is the mean.
+fn put_found(words: &mut [u64], at: usize, h: Hash, owner: u64, height: u64, clock: u64)
+    requires { ⌜ Whole (now words) × (Takes h (window-of (now words)) × Finds h (window-of (now words) .queue .pending) (Free at)) ⌝ }
     ensures { λ _. ⌜ Holds (with-queue (put (new-entry h owner clock height (window-of (now (words .entry)) .mean)) (window-of (now (words .entry)) .queue)) (window-of (now (words .entry)))) (now (words .exit)) ⌝ }
 {
     let mean = state::get_mean(words);
     let e = new_entry(h, owner, clock, height, mean);
+    state_queue::put_at(words, at, e);
+}
+
+// `put` of an entry whose hash is absent.
+pub fn put_one(words: &mut [u64], h: Hash, owner: u64, height: u64, clock: u64)
+    requires { ⌜ Whole (now words) × Takes h (window-of (now words)) ⌝ }
+    ensures { λ _. ⌜ Holds (with-queue (put (new-entry h owner clock height (window-of (now (words .entry)) .mean)) (window-of (now (words .entry)) .queue)) (window-of (now (words .entry)))) (now (words .exit)) ⌝ }
+{
     let p = state_queue::find(words, h);
     let at = place_of(p);
-    state_queue::put_at(words, at, e);
+    put_found(words, at, h, owner, height, clock);
 }
 
 // ---- the list
@@ -160,4 +170,27 @@ pub fn mark_requested(
     forget_attempted(words, n);
     put_all(words, hashes, heights, n, owner, clock);
     close(words, n, owner, next as u64, clock);
+}
+
+// `mark-requested` of a list of one, at the place where a search for its hash ended.
+pub fn mark_found(
+    words: &mut [u64],
+    hashes: &[u64],
+    heights: &[u32],
+    at: usize,
+    owner: u64,
+    next: u32,
+    clock: u64,
+)
+    requires { ⌜
+        (Whole (now words) × (Sound clock (window-of (now words)) × (Requestable (asks-in (now hashes) (now heights)) (window-of (now words)) × (owner ≤ max-seat))))
+        × ((length (asks-in (now hashes) (now heights)) ≡ 1) × Finds (hash-in (now hashes) 0) (window-of (now words) .queue .pending) (Free at))
+        ⌝ }
+    ensures { λ _. ⌜ Holds (mark-requested (asks-in (now (hashes .entry)) (now (heights .entry))) owner next clock (window-of (now (words .entry)))) (now (words .exit)) ⌝ }
+{
+    let h = hash_in(hashes, 0);
+    let height = heights[0] as u64;
+    forget_attempted(words, 1);
+    put_found(words, at, h, owner, height, clock);
+    close(words, 1, owner, next as u64, clock);
 }

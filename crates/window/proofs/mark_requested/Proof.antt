@@ -1,7 +1,7 @@
 -- `window::mark_requested` meets its contract. Assumes nothing.
 use mathlib.Core.Path.{_≡_, refl}
 use Rattle.model.specs.Says.{requested-says}
-use Rattle.window.specs.Requests.{request-refused, request-whole, list-refused, request-ready, request-so}
+use Rattle.window.specs.Requests.{request-refused, request-ready, request-so}
 use borrow.Author.Needs.{needs}
 use Rattle.window.proofs.mark_requested.Statement.{statement}
 use Rattle.window.proofs.mark_requested.Tie as tie
@@ -18,41 +18,21 @@ returns c =
     let k = c .before .refused-by-at in
     request-refused (a .clock) (a .owner) (a .hashes .now) (a .heights .now) (a .next) (a .byte-headroom) (a .count-headroom) (a .words .now) (k .result) (k .ensures) (c .if1 .taken)
 
-request-refusal-requires : tie.Need-request-refusal-requires
-request-refusal-requires c κs =
+request-requires : tie.Need-request-requires
+request-requires c κs =
     let a = c .before .before .before .before .before .before .before .args in
     let k = c .before .before .refused-by-at in
-    request-whole (a .clock) (a .owner) (a .hashes .now) (a .heights .now) (a .next) (a .byte-headroom) (a .count-headroom) (a .words .now) (k .result) (k .ensures) (c .before .if1 .left)
+    request-ready (a .clock) (a .owner) (a .hashes .now) (a .heights .now) (a .next) (a .byte-headroom) (a .count-headroom) (a .words .now) (k .result) (k .ensures) (c .before .if1 .left)
 
 same-length-2 : tie.Need-same-length-2
-same-length-2 c = refl
+same-length-2 c = search needs
 
 returns-2 : tie.Need-returns-2
 returns-2 c =
-    let a = c .before .before .before .before .before .before .before .before .before .args in
-    let k = c .before .before .before .before .refused-by-at in
-    let n = c .before .request-refusal in
-    list-refused (a .clock) (a .owner) (a .hashes .now) (a .heights .now) (a .next) (a .byte-headroom) (a .count-headroom) (a .words .now) (k .result) (k .ensures) (c .before .before .before .if1 .left) (n .result) (n .ensures) (c .if2 .taken)
-
-request-requires : tie.Need-request-requires
-request-requires c κs =
     let a = c .before .before .before .before .before .before .before .before .before .before .args in
     let k = c .before .before .before .before .before .refused-by-at in
-    let n = c .before .before .request-refusal in
-    request-ready (a .clock) (a .owner) (a .hashes .now) (a .heights .now) (a .next) (a .byte-headroom) (a .count-headroom) (a .words .now) (k .result) (k .ensures) (c .before .before .before .before .if1 .left) (n .result) (n .ensures) (c .before .if2 .left)
-
-same-length-3 : tie.Need-same-length-3
-same-length-3 c = search needs
-
-returns-3 : tie.Need-returns-3
-returns-3 c =
-    let a = c .before .before .before .before .before .before .before .before .before .before .before .before .before .args in
-    let k = c .before .before .before .before .before .before .before .before .refused-by-at in
-    let n = c .before .before .before .before .before .request-refusal in
     let q = c .before .before .request in
-    request-so (a .clock) (a .owner) (a .hashes .now) (a .heights .now) (a .next) (a .byte-headroom) (a .count-headroom) (a .words .now) (k .result) (k .ensures) (c .before .before .before .before .before .before .before .if1 .left) (n .result) (n .ensures) (c .before .before .before .before .if2 .left) (requested-says (q .result)) (q .last .0) (q .ensures .0) (q .ensures .1)
+    request-so (a .clock) (a .owner) (a .hashes .now) (a .heights .now) (a .next) (a .byte-headroom) (a .count-headroom) (a .words .now) (k .result) (k .ensures) (c .before .before .before .before .if1 .left) (requested-says (q .result)) (q .last .0) (q .ensures .0) (q .ensures .1)
 
 pub mark-requested-spec : {M : Type 1} → statement M
-mark-requested-spec =
-    tie.close
-    (tie.spec refused-by-at-requires same-length returns request-refusal-requires same-length-2 returns-2 request-requires same-length-3 returns-3)
+mark-requested-spec = tie.close (tie.spec refused-by-at-requires same-length returns request-requires same-length-2 returns-2)
