@@ -360,50 +360,8 @@ pub fn of_plan(a: Plan) -> FlatPlan
 pub fn of_rows(rows: [[u64; 4]; 8]) -> FlatHashes
     ensures { λ r. ⌜ r .words ≡ rows-words 8 rows ⌝ }
 {
-    let a = rows[0];
-    let b = rows[1];
-    let c = rows[2];
-    let d = rows[3];
-    let e = rows[4];
-    let f = rows[5];
-    let g = rows[6];
-    let h = rows[7];
-    FlatHashes {
-        words: [
-            a[0],
-            a[1],
-            a[2],
-            a[3],
-            b[0],
-            b[1],
-            b[2],
-            b[3],
-            c[0],
-            c[1],
-            c[2],
-            c[3],
-            d[0],
-            d[1],
-            d[2],
-            d[3],
-            e[0],
-            e[1],
-            e[2],
-            e[3],
-            f[0],
-            f[1],
-            f[2],
-            f[3],
-            g[0],
-            g[1],
-            g[2],
-            g[3],
-            h[0],
-            h[1],
-            h[2],
-            h[3],
-        ],
-    }
+    let words = plans::planned_list(rows);
+    FlatHashes { words }
 }
 
 // What may be missing, by a flag beside it.
