@@ -3,7 +3,7 @@ ghost use mathlib.Core.Path.{_≡_};
 ghost use lib.ListN.{length};
 ghost use Rattle.model.specs.Layout.{decode};
 ghost use Rattle.laws.specs.Tables.{with-words};
-ghost use Rattle.plans.specs.Rows.{rows-words};
+ghost use Rattle.plans.specs.Rows.{rows-words, words-from};
 use model::Plan;
 use model::head;
 use model::sizes;
@@ -14,9 +14,9 @@ pub struct PlanAnswer {
     pub hashes: [u64; sizes::PLANNED_WORDS],
 }
 
-// `rows-words` of eight rows.
+// `rows-words` of eight rows; its contract has that name's body, which computes, so that the prover finds the proof.
 pub fn planned_list(hs: [[u64; 4]; 8]) -> [u64; sizes::PLANNED_WORDS]
-    ensures { λ r. ⌜ r ≡ rows-words 8 hs ⌝ }
+    ensures { λ r. ⌜ r ≡ words-from 0 8 hs ⌝ }
 {
     [
         hs[0][0],

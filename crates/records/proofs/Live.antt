@@ -1,5 +1,5 @@
 -- A column whose places from `live` on hold 0: what is done to its live places, and to one more, is done to all of it. Assumes nothing.
-use mathlib.Core.Path.{_≡_, refl, sym, ap, _∙_}
+use mathlib.Core.Path.{_≡_, refl, sym, ap, subst, _∙_}
 use mathlib.Core.List.{List, [], _∷_, _++_, map, append-assoc}
 use Prim.Native.Nat.{ℕ, zero, suc, _+_, _-_, _*_, _≤_, _<_}
 use native.Mathlib.Omega.{arith}
@@ -12,7 +12,7 @@ use Rattle.model.specs.declared.Entry.{Entry}
 use Rattle.column.proofs.Laws.{length-removed, length-inserted}
 use Rattle.column.proofs.Pads.{removed-pad, inserted-pad}
 use Rattle.column.proofs.Parts.{put}
-use Rattle.laws.specs.Rows.{col, mid, col-rows, field-blank}
+use Rattle.laws.specs.Rows.{col, mid, col-rows, field-blank, Upto}
 
 -- ---- the columns of entries that are blank from a place on
 
@@ -86,3 +86,9 @@ module _ (c : List ℕ) (live : ℕ) (long : length c ≡ 256) (few : live ≤ 2
       ∙ ap (λ (n : ℕ). insertAt at v l ++ replicate n 0) (sym rest)
       ∙ sym (inserted-pad 256 at v 0 l (omega (arith, length-live)) (omega (arith, length-live)))
       ∙ ap (inserted at v) (sym padded)
+
+-- ---- a loop over the eight columns that is through
+pub all-columns : {F : ℕ → List ℕ → List ℕ} {k : ℕ} {w₀ w : List ℕ} → (k ≤ 8) × Upto F k w₀ w → 8 ≤ k → Upto F 8 w₀ w
+all-columns {F} {k} {w₀} {w} d h =
+    let eight : k ≡ 8 = omega (arith, d .0) in
+    subst (λ (j : ℕ). Upto F j w₀ w) eight (d .1)

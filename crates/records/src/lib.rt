@@ -88,7 +88,7 @@ pub fn remove(words: &mut [u64], live: usize, at: usize)
 }
 
 // The word of an entry that is in the column k.
-fn field_of(e: Entry, k: usize) -> u64
+pub fn field_of(e: Entry, k: usize) -> u64
     requires { ⌜ k < 8 ⌝ }
     ensures { λ r. ⌜ r ≡ field k e ⌝ }
 {

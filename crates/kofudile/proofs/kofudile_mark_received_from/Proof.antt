@@ -4,13 +4,15 @@ use mathlib.Core.List.{[], _∷_}
 use mir.Syntax.{w64}
 use Rattle.model.specs.Refusals.{receives}
 use Rattle.flat.specs.Flat.{source-if}
+use Rattle.window.proofs.Lent.{Said}
 use Rattle.window.proofs.Passed.{number}
 use Rattle.window.proofs.Replies.{hash}
 use Rattle.window.proofs.Calls.{receiving}
 use Rattle.window.proofs.mark_received_from.Symbol as core
 use Rattle.window.proofs.mark_received_from.Met as core-met
 use Rattle.kofudile.proofs.Answers.{was-received, source-given}
-use Rattle.kofudile.proofs.Exports.{Export, made, exports}
+use Rattle.kofudile.proofs.Exports.{Export, made, shape, exports}
+use Rattle.kofudile.proofs.kofudile_mark_received_from as f
 use Rattle.kofudile.proofs.kofudile_mark_received_from.Key.{name as #f}
 use Rattle.kofudile.proofs.kofudile_mark_received_from.Statement as stated
 use Rattle.kofudile.proofs.kofudile_mark_received_from.Code as code
@@ -26,6 +28,9 @@ this = record {
   change = λ _ a. receives (a .1 .1 .1 .1 .0) (a .0) (a .1 .0) (source-if (a .1 .1 .0) (a .1 .1 .1 .0));
   agrees = λ _ x m c y e. ap (receives (y .0) (x .0) (x .1 .0)) e;
 }
+
+said : {M : Type 1} → Said (shape this) M f.clauses
+said 𝓤 H A mem run κs a g r e P h = h
 
 pub kofudile-mark-received-from-spec : {M : Type 1} → stated.statement M
 unfolding code.routine

@@ -1,14 +1,18 @@
 -- `kofudile::kofudile_release_pending` meets its contract: it is an `Export` (Exports.antt) of the window's function. Assumes nothing.
-use mathlib.Core.Path.{refl}
 use mathlib.Core.List.{[]}
+use Rattle.window.proofs.Lent.{Said}
 use Rattle.window.proofs.Calls.{releasing}
 use Rattle.window.proofs.release_pending.Symbol as core
 use Rattle.window.proofs.release_pending.Met as core-met
 use Rattle.kofudile.proofs.Answers.{gone}
-use Rattle.kofudile.proofs.Exports.{Export, as-it-is, exports}
+use Rattle.kofudile.proofs.Exports.{Export, as-it-is, shape, exports}
+use Rattle.kofudile.proofs.kofudile_release_pending as f
 use Rattle.kofudile.proofs.kofudile_release_pending.Key.{name as #f}
 use Rattle.kofudile.proofs.kofudile_release_pending.Statement as stated
 use Rattle.kofudile.proofs.kofudile_release_pending.Code as code
+
+said : {M : Type 1} → Said (shape (as-it-is releasing core.name gone)) M f.clauses
+said 𝓤 H A mem run κs a g r e P h = h
 
 pub kofudile-release-pending-spec : {M : Type 1} → stated.statement M
 unfolding code.routine

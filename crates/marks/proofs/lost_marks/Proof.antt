@@ -1,22 +1,18 @@
 -- `marks::lost_marks` meets its contract: at the loop's head the first i marks are made. Assumes nothing.
-use mathlib.Core.Path.{_≡_, refl, sym, ap, _∙_}
-use mathlib.Core.Bool.{cond, not, _&&_}
-use mathlib.Core.List.{List, map}
-use Prim.Native.Nat.{ℕ, suc, _+_, _-_, _≤_, _<_}
-use native.Mathlib.Numerals.{add-one}
-use lib.ListN.{length, take, getD, length-set}
-use lib.Seq.{take-all}
-use lib.Dec.{eqb, ltb, leb}
+use mathlib.Core.Path.{_≡_, sym, ap, _∙_}
+use mathlib.Core.Bool.{cond, not}
+use mathlib.Core.List.{List}
+use Prim.Native.Nat.{ℕ, _+_, _-_, _≤_, _<_}
+use lib.ListN.{length, getD}
+use lib.Dec.{eqb}
 use Rattle.model.specs.Layout.{blank, window-of}
 use Rattle.model.specs.LettingGo.{lost-reason, flagged}
-use Rattle.laws.specs.Pending.{marks-step, pending-few, owner-at, seat-at}
+use Rattle.laws.specs.Pending.{pending-few, owner-at, seat-at}
 use borrow.Author.Needs.{needs}
 use native.Mathlib.Omega.{arith}
+use Rattle.marks.proofs.Marked.{Marked, none-made, one-more, all-made}
 use Rattle.marks.proofs.lost_marks.Statement.{statement}
 use Rattle.marks.proofs.lost_marks.Tie as tie
-use Rattle.marks.proofs.lost_marks.Reads as reads
-use Rattle.marks.proofs.lost_marks.Lts as lts
-use Rattle.marks.proofs.lost_mark.Reads as lost-mark-reads
 
 -- the mark of the record at i
 marked : (ws fs : List ℕ) (i reason v : ℕ) → i < length (window-of ws .queue .pending) → v ≡ cond (not (eqb (getD fs (getD ws (i + 1024) 0) 0) 0)) 0 reason
@@ -25,13 +21,13 @@ unfolding lost-reason flagged
 marked ws fs i reason v h is = is ∙ ap (λ (n : ℕ). cond (not (eqb (getD fs n 0) 0)) 0 reason) (sym (owner-at ws i h))
 
 abbrev Inv-loop : tie.InvT-loop
-Inv-loop words count flags reason marks₀ i₀ marks i = (i ≤ count) × ((length marks ≡ 256) × (take i marks ≡ map (lost-reason (flagged flags) reason) (take i (window-of words .queue .pending))))
+Inv-loop words count flags reason marks₀ i₀ marks i = (i ≤ count) × Marked (lost-reason (flagged flags) reason) words i marks
 
 abbrev μ-loop : tie.MeasureT-loop
 μ-loop words count flags reason marks₀ i₀ marks i = count - i
 
 loop-holds : tie.Need-loop-holds Inv-loop μ-loop
-loop-holds c = (omega arith, (refl, refl))
+loop-holds c = (omega arith, none-made _ _)
 
 add-o : tie.Need-add-o Inv-loop μ-loop
 add-o c = omega (arith, pending-few (c .before .before .before .before .args .words .now))
@@ -70,15 +66,13 @@ loop-again c =
     let ws = a .words .now in
     let h : v .i < length (window-of ws .queue .pending) = omega arith in
     let is = marked ws (a .flags .now) (v .i) (a .reason) (c .lost-mark .result) h (c .lost-mark .ensures) in
-    rw add-one (omega arith, (simp length-set (v .inv .1 .0), marks-step _ (window-of ws .queue .pending) (v .marks) (v .i) (c .lost-mark .result) blank h (omega (arith, pending-few ws)) (v .inv .1 .1) is))
+    (omega arith, one-more _ ws (v .i) (c .lost-mark .result) (v .marks) h is (v .inv .1))
 
 returns : tie.Need-returns Inv-loop μ-loop
 returns c =
     let v = c .before .loop in
-    let a = c .before .before .before .before .args in
-    let l = window-of (a .words .now) .queue .pending in
-    let e : v .i ≡ a .count = omega arith in
-    (rw e at (v .inv .1 .1)) ∙ ap (map _) (take-all (a .count) l (omega arith))
+    let s = c .before .before .before .before in
+    all-made _ (s .args .words .now) (v .i) (s .args .count) (v .marks) (omega arith) (s .pre .1 .0) (v .inv .1)
 
 pub lost-marks-spec : {M : Type 1} → statement M
 lost-marks-spec =

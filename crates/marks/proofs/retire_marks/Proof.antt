@@ -1,22 +1,18 @@
 -- `marks::retire_marks` meets its contract: at the loop's head the first i marks are made. Assumes nothing.
-use mathlib.Core.Path.{_≡_, refl, sym, ap, _∙_}
-use mathlib.Core.Bool.{cond, not, _&&_}
-use mathlib.Core.List.{List, map}
-use Prim.Native.Nat.{ℕ, suc, _+_, _-_, _≤_, _<_}
-use native.Mathlib.Numerals.{add-one}
-use lib.ListN.{length, take, getD, length-set}
-use lib.Seq.{take-all}
-use lib.Dec.{eqb, ltb, leb}
+use mathlib.Core.Path.{_≡_, sym, ap, _∙_}
+use mathlib.Core.Bool.{cond}
+use mathlib.Core.List.{List}
+use Prim.Native.Nat.{ℕ, _+_, _-_, _≤_, _<_}
+use lib.ListN.{length, getD}
+use lib.Dec.{ltb}
 use Rattle.model.specs.Layout.{blank, window-of}
 use Rattle.laws.specs.Batches.{retire-reason}
-use Rattle.laws.specs.Pending.{marks-step, pending-few, height-at}
+use Rattle.laws.specs.Pending.{pending-few, height-at}
 use borrow.Author.Needs.{needs}
 use native.Mathlib.Omega.{arith}
+use Rattle.marks.proofs.Marked.{Marked, none-made, one-more, all-made}
 use Rattle.marks.proofs.retire_marks.Statement.{statement}
 use Rattle.marks.proofs.retire_marks.Tie as tie
-use Rattle.marks.proofs.retire_marks.Reads as reads
-use Rattle.marks.proofs.retire_marks.Lts as lts
-use Rattle.marks.proofs.retire_mark.Reads as retire-mark-reads
 
 -- the mark of the record at i
 marked : (ws : List ℕ) (i height v : ℕ) → i < length (window-of ws .queue .pending) → v ≡ cond (ltb (getD ws (i + 1536) 0) height) 5 0
@@ -25,13 +21,13 @@ unfolding retire-reason
 marked ws i height v h is = is ∙ ap (λ (n : ℕ). cond (ltb n height) 5 0) (sym (height-at ws i h))
 
 abbrev Inv-loop : tie.InvT-loop
-Inv-loop words count height marks₀ i₀ marks i = (i ≤ count) × ((length marks ≡ 256) × (take i marks ≡ map (retire-reason height) (take i (window-of words .queue .pending))))
+Inv-loop words count height marks₀ i₀ marks i = (i ≤ count) × Marked (retire-reason height) words i marks
 
 abbrev μ-loop : tie.MeasureT-loop
 μ-loop words count height marks₀ i₀ marks i = count - i
 
 loop-holds : tie.Need-loop-holds Inv-loop μ-loop
-loop-holds c = (omega arith, (refl, refl))
+loop-holds c = (omega arith, none-made _ _)
 
 add-retire-mark : tie.Need-add-retire-mark Inv-loop μ-loop
 add-retire-mark c = omega (arith, pending-few (c .before .before .before .args .words .now))
@@ -64,15 +60,13 @@ loop-again c =
     let ws = a .words .now in
     let h : v .i < length (window-of ws .queue .pending) = omega arith in
     let is = marked ws (v .i) (a .height) (c .retire-mark .result) h (c .retire-mark .ensures) in
-    rw add-one (omega arith, (simp length-set (v .inv .1 .0), marks-step _ (window-of ws .queue .pending) (v .marks) (v .i) (c .retire-mark .result) blank h (omega (arith, pending-few ws)) (v .inv .1 .1) is))
+    (omega arith, one-more _ ws (v .i) (c .retire-mark .result) (v .marks) h is (v .inv .1))
 
 returns : tie.Need-returns Inv-loop μ-loop
 returns c =
     let v = c .before .loop in
-    let a = c .before .before .before .args in
-    let l = window-of (a .words .now) .queue .pending in
-    let e : v .i ≡ a .count = omega arith in
-    (rw e at (v .inv .1 .1)) ∙ ap (map _) (take-all (a .count) l (omega arith))
+    let s = c .before .before .before in
+    all-made _ (s .args .words .now) (v .i) (s .args .count) (v .marks) (omega arith) (s .pre .1) (v .inv .1)
 
 pub retire-marks-spec : {M : Type 1} → statement M
 retire-marks-spec =

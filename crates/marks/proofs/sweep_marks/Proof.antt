@@ -1,22 +1,18 @@
 -- `marks::sweep_marks` meets its contract: at the loop's head the first i marks are made. Assumes nothing.
-use mathlib.Core.Path.{_≡_, refl, sym, ap, _∙_}
-use mathlib.Core.Bool.{cond, not, _&&_}
-use mathlib.Core.List.{List, map}
+use mathlib.Core.Path.{_≡_, sym, ap, _∙_}
+use mathlib.Core.Bool.{cond, _&&_}
+use mathlib.Core.List.{List}
 use Prim.Native.Nat.{ℕ, suc, _+_, _-_, _≤_, _<_}
-use native.Mathlib.Numerals.{add-one}
-use lib.ListN.{length, take, getD, length-set}
-use lib.Seq.{take-all}
-use lib.Dec.{eqb, ltb, leb}
+use lib.ListN.{length, getD}
+use lib.Dec.{ltb, leb}
 use Rattle.model.specs.Layout.{blank, window-of}
 use Rattle.model.specs.Time.{expired}
 use Rattle.model.specs.LettingGo.{skipped, sweep-reason}
-use Rattle.laws.specs.Pending.{Ranged, marks-step, pending-few, owner-at, time-at, seat-at, time-le, start-word, body-word}
+use Rattle.laws.specs.Pending.{Ranged, pending-few, owner-at, time-at, seat-at, time-le, start-word, body-word}
 use native.Mathlib.Omega.{arith}
+use Rattle.marks.proofs.Marked.{Marked, none-made, one-more, all-made}
 use Rattle.marks.proofs.sweep_marks.Statement.{statement}
 use Rattle.marks.proofs.sweep_marks.Tie as tie
-use Rattle.marks.proofs.sweep_marks.Reads as reads
-use Rattle.marks.proofs.sweep_marks.Lts as lts
-use Rattle.marks.proofs.sweep_mark.Reads as sweep-mark-reads
 
 -- the mark of the record at i
 marked : (ws : List ℕ) (i clock timeout wait v : ℕ) → i < length (window-of ws .queue .pending) → Ranged (window-of ws) → wait ≡ window-of ws .pace .wait
@@ -33,13 +29,13 @@ marked ws i clock timeout wait v h a q is =
     is ∙ (λ j. cond (expired clock timeout (s j)) 6 (cond (leb (q j) (clock - t j) && ltb (suc (t j)) (b j)) 7 0))
 
 abbrev Inv-loop : tie.InvT-loop
-Inv-loop words count clock timeout wait marks₀ i₀ marks i = (i ≤ count) × ((length marks ≡ 256) × (take i marks ≡ map (sweep-reason clock timeout (window-of words)) (take i (window-of words .queue .pending))))
+Inv-loop words count clock timeout wait marks₀ i₀ marks i = (i ≤ count) × Marked (sweep-reason clock timeout (window-of words)) words i marks
 
 abbrev μ-loop : tie.MeasureT-loop
 μ-loop words count clock timeout wait marks₀ i₀ marks i = count - i
 
 loop-holds : tie.Need-loop-holds Inv-loop μ-loop
-loop-holds c = (omega arith, (refl, refl))
+loop-holds c = (omega arith, none-made _ _)
 
 add-o : tie.Need-add-o Inv-loop μ-loop
 add-o c = omega (arith, pending-few (c .before .before .before .args .words .now))
@@ -99,15 +95,13 @@ loop-again c =
     let ws = a .words .now in
     let h : v .i < length (window-of ws .queue .pending) = omega arith in
     let is = marked ws (v .i) (a .clock) (a .timeout) (a .wait) (c .sweep-mark .result) h (c .before .before .before .before .before .before .before .before .pre .1 .1 .1 .0) (c .before .before .before .before .before .before .before .before .pre .1 .1 .0) (c .sweep-mark .ensures) in
-    rw add-one (omega arith, (simp length-set (v .inv .1 .0), marks-step _ (window-of ws .queue .pending) (v .marks) (v .i) (c .sweep-mark .result) blank h (omega (arith, pending-few ws)) (v .inv .1 .1) is))
+    (omega arith, one-more _ ws (v .i) (c .sweep-mark .result) (v .marks) h is (v .inv .1))
 
 returns : tie.Need-returns Inv-loop μ-loop
 returns c =
     let v = c .before .loop in
-    let a = c .before .before .before .args in
-    let l = window-of (a .words .now) .queue .pending in
-    let e : v .i ≡ a .count = omega arith in
-    (rw e at (v .inv .1 .1)) ∙ ap (map _) (take-all (a .count) l (omega arith))
+    let s = c .before .before .before in
+    all-made _ (s .args .words .now) (v .i) (s .args .count) (v .marks) (omega arith) (s .pre .1 .0) (v .inv .1)
 
 pub sweep-marks-spec : {M : Type 1} → statement M
 sweep-marks-spec =

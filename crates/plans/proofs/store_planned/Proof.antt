@@ -4,6 +4,7 @@ use mathlib.Core.List.{List}
 use Prim.Native.Nat.{ℕ}
 use Rattle.model.specs.Layout.{decode}
 use Rattle.laws.specs.Tables.{with-words}
+use Rattle.plans.specs.Rows.{rows-words}
 use borrow.Author.Needs.{needs}
 use Rattle.plans.proofs.store_planned.Statement.{statement}
 use Rattle.plans.proofs.store_planned.Tie as tie
@@ -21,6 +22,7 @@ same-length : tie.Need-same-length
 same-length c = search needs
 
 returns : tie.Need-returns
+unfolding rows-words
 returns c =
     let a = c .before .before .before .before .before .before .before .args in
     c .before .before .store-at .ensures ∙ ap (λ (l : List ℕ). with-words 65 l (decode (a .words .now))) (c .before .before .before .before .before .planned-list .ensures)

@@ -1,10 +1,11 @@
 -- `records::clear` meets its contract: at the loop's head the columns below k are done. Assumes nothing.
-use mathlib.Core.Path.{_≡_, subst, _∙_}
-use Prim.Native.Nat.{ℕ, _-_, _≤_}
+use mathlib.Core.Path.{_∙_}
+use Prim.Native.Nat.{_-_, _≤_}
 use native.Mathlib.Omega.{arith}
 use Rattle.laws.specs.Rows.{Upto, upto-start, upto-call}
 use Rattle.laws.specs.Tables.{kept-col, decode-kept}
 use Rattle.records.specs.Cleared.{all-marked, cleared}
+use Rattle.records.proofs.Live.{all-columns}
 use Rattle.records.proofs.clear.Statement.{statement}
 use Rattle.records.proofs.clear.Tie as tie
 
@@ -63,10 +64,7 @@ returns : tie.Need-returns Inv-loop μ-loop
 returns c =
     let at-loop = c .before in
     let at-start = at-loop .before .before in
-    let F = kept-col all-marked in
-    let eight : at-loop .loop .k ≡ 8 = omega arith in
-    decode-kept all-marked (at-start .args .words .now) (at-loop .loop .words) (at-start .pre)
-    (subst (λ (k : ℕ). Upto F k (at-start .args .words .now) (at-loop .loop .words)) eight (at-loop .loop .inv .1))
+    decode-kept all-marked (at-start .args .words .now) (at-loop .loop .words) (at-start .pre) (all-columns (at-loop .loop .inv) (omega arith))
 
 pub clear-spec : {M : Type 1} → statement M
 clear-spec =

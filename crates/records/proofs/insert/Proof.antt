@@ -3,11 +3,11 @@ use Rattle.column.specs.Edits.{inserted}
 use Rattle.laws.specs.Rows.{mid}
 use Rattle.laws.specs.Tables.{put-col, decode-put-in}
 use Rattle.laws.specs.Rows.{Upto, upto-start, upto-call}
-use mathlib.Core.Path.{_≡_, ap, _∙_, subst}
+use mathlib.Core.Path.{ap, _∙_}
 use Prim.Native.Nat.{ℕ, _-_, _≤_}
 use native.Mathlib.Omega.{arith}
 use borrow.Author.Needs.{needs}
-use Rattle.records.proofs.Live.{mid-long, mid-blank}
+use Rattle.records.proofs.Live.{mid-long, mid-blank, all-columns}
 use Rattle.records.proofs.insert.Statement.{statement}
 use Rattle.records.proofs.insert.Tie as tie
 
@@ -79,11 +79,7 @@ returns : tie.Need-returns Inv-loop μ-loop
 returns c =
     let at-loop = c .before in
     let at-start = at-loop .before .before in
-    let at = at-start .args .at in
-    let e = at-start .args .e in
-    let eight : at-loop .loop .k ≡ 8 = omega arith in
-    decode-put-in at e (at-start .args .words .now) (at-loop .loop .words) (at-start .pre .0)
-    (subst (λ (k : ℕ). Upto (put-col at e) k (at-start .args .words .now) (at-loop .loop .words)) eight (at-loop .loop .inv .1))
+    decode-put-in (at-start .args .at) (at-start .args .e) (at-start .args .words .now) (at-loop .loop .words) (at-start .pre .0) (all-columns (at-loop .loop .inv) (omega arith))
 
 pub insert-spec : {M : Type 1} → statement M
 insert-spec =

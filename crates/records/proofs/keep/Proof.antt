@@ -1,9 +1,9 @@
 -- `records::keep` meets its contract: at the loop's head the columns below k are done. Assumes nothing.
-use mathlib.Core.Path.{_≡_, subst}
-use Prim.Native.Nat.{ℕ, _-_, _≤_}
+use Prim.Native.Nat.{_-_, _≤_}
 use native.Mathlib.Omega.{arith}
 use Rattle.laws.specs.Rows.{Upto, upto-start, upto-call}
 use Rattle.laws.specs.Tables.{kept-col, decode-kept}
+use Rattle.records.proofs.Live.{all-columns}
 use Rattle.records.proofs.keep.Statement.{statement}
 use Rattle.records.proofs.keep.Tie as tie
 
@@ -62,10 +62,7 @@ returns : tie.Need-returns Inv-loop μ-loop
 returns c =
     let at-loop = c .before in
     let at-start = at-loop .before .before .before in
-    let F = kept-col (at-start .args .marks .now) in
-    let eight : at-loop .loop .k ≡ 8 = omega arith in
-    decode-kept (at-start .args .marks .now) (at-start .args .words .now) (at-loop .loop .words) (at-start .pre .0)
-    (subst (λ (k : ℕ). Upto F k (at-start .args .words .now) (at-loop .loop .words)) eight (at-loop .loop .inv .1))
+    decode-kept (at-start .args .marks .now) (at-start .args .words .now) (at-loop .loop .words) (at-start .pre .0) (all-columns (at-loop .loop .inv) (omega arith))
 
 pub keep-spec : {M : Type 1} → statement M
 keep-spec =

@@ -1,10 +1,9 @@
 -- `records::remove` meets its contract: at the loop's head the columns below k are done. Assumes nothing.
-use mathlib.Core.Path.{_≡_, subst}
-use Prim.Native.Nat.{ℕ, _-_, _≤_}
+use Prim.Native.Nat.{_-_, _≤_}
 use native.Mathlib.Omega.{arith}
 use Rattle.laws.specs.Rows.{Upto, upto-start, upto-call}
 use Rattle.laws.specs.Tables.{removed-col, decode-removed}
-use Rattle.records.proofs.Live.{mid-long, mid-blank}
+use Rattle.records.proofs.Live.{mid-long, mid-blank, all-columns}
 use Rattle.records.proofs.remove.Statement.{statement}
 use Rattle.records.proofs.remove.Tie as tie
 
@@ -70,10 +69,7 @@ returns : tie.Need-returns Inv-loop μ-loop
 returns c =
     let at-loop = c .before in
     let at-start = at-loop .before .before in
-    let at = at-start .args .at in
-    let eight : at-loop .loop .k ≡ 8 = omega arith in
-    decode-removed at (at-start .args .words .now) (at-loop .loop .words) (at-start .pre .0)
-    (subst (λ (k : ℕ). Upto (removed-col at) k (at-start .args .words .now) (at-loop .loop .words)) eight (at-loop .loop .inv .1))
+    decode-removed (at-start .args .at) (at-start .args .words .now) (at-loop .loop .words) (at-start .pre .0) (all-columns (at-loop .loop .inv) (omega arith))
 
 pub remove-spec : {M : Type 1} → statement M
 remove-spec =

@@ -1,12 +1,12 @@
 -- `seats::clear_racers` meets its contract. Assumes nothing.
 use mathlib.Core.Path.{_≡_, ap, _∙_}
-use mathlib.Core.List.{List}
 use Prim.Native.Nat.{ℕ, _-_}
 use native.Mathlib.Omega.{arith}
 use lib.ListN.{length, take, drop, replicate}
 use Rattle.model.specs.Layout.{decode}
-use Rattle.laws.specs.Tables.{with-racers, decode-racers, sized-decode}
+use Rattle.laws.specs.Tables.{sized-decode}
 use borrow.Author.Needs.{needs}
+use Rattle.seats.proofs.Written.{racers-back}
 use Rattle.seats.proofs.clear_racers.Statement.{statement}
 use Rattle.seats.proofs.clear_racers.Tie as tie
 
@@ -28,12 +28,11 @@ same-length c = search needs
 returns : tie.Need-returns
 unfolding decode
 returns c =
-    let ws = c .before .before .before .before .before .args .words .now in
-    let n = c .before .before .before .before .before .pre in
-    let long = c .before .before .clear-from .kept .0 ∙ sized-decode ws n .racers in
-    let e : length (take 256 (drop 3328 ws)) - 0 ≡ 256 = omega (arith, sized-decode ws n .racers) in
-    decode-racers ws (c .before .before .clear-from .last .0) n long
-    ∙ ap (λ (l : List ℕ). with-racers l (decode ws)) (c .before .before .clear-from .ensures ∙ ap (λ (k : ℕ). replicate k 0) e)
+    let at-call = c .before .before in
+    let at-start = at-call .before .before .before in
+    let ws = at-start .args .words .now in
+    let e : length (take 256 (drop 3328 ws)) - 0 ≡ 256 = omega (arith, sized-decode ws (at-start .pre) .racers) in
+    racers-back ws (at-call .clear-from .last .0) _ (at-start .pre) (at-call .clear-from .ensures ∙ ap (λ (k : ℕ). replicate k 0) e) (at-call .clear-from .kept .0)
 
 pub clear-racers-spec : {M : Type 1} → statement M
 clear-racers-spec =

@@ -1,10 +1,7 @@
 -- `seats::keep_racers` meets its contract. Assumes nothing.
-use mathlib.Core.Path.{ap, _∙_}
-use mathlib.Core.List.{List}
-use Prim.Native.Nat.{ℕ}
 use Rattle.model.specs.Layout.{decode}
-use Rattle.laws.specs.Tables.{with-racers, decode-racers, sized-decode}
 use borrow.Author.Needs.{needs}
+use Rattle.seats.proofs.Written.{racers-back}
 use Rattle.seats.proofs.keep_racers.Statement.{statement}
 use Rattle.seats.proofs.keep_racers.Tie as tie
 
@@ -26,10 +23,9 @@ same-length c = search needs
 returns : tie.Need-returns
 unfolding decode
 returns c =
-    let ws = c .before .before .before .before .before .before .args .words .now in
-    let n = c .before .before .before .before .before .before .pre .0 in
-    decode-racers ws (c .before .before .keep-flagged .last .0) n (c .before .before .keep-flagged .kept .0 ∙ sized-decode ws n .racers)
-    ∙ ap (λ (l : List ℕ). with-racers l (decode ws)) (c .before .before .keep-flagged .ensures)
+    let at-call = c .before .before in
+    let at-start = at-call .before .before .before .before in
+    racers-back (at-start .args .words .now) (at-call .keep-flagged .last .0) _ (at-start .pre .0) (at-call .keep-flagged .ensures) (at-call .keep-flagged .kept .0)
 
 pub keep-racers-spec : {M : Type 1} → statement M
 keep-racers-spec =

@@ -7,10 +7,11 @@ use lib.ListN.{length, take, drop}
 use Rattle.model.specs.Seats.{keep-seats}
 use Rattle.model.specs.LettingGo.{flagged}
 use Rattle.model.specs.Layout.{decode}
-use Rattle.laws.specs.Tables.{with-starts, with-bodies, decode-starts, decode-bodies, sized-decode}
+use Rattle.laws.specs.Tables.{with-starts, with-bodies, sized-decode}
 use Rattle.column.proofs.Parts.{put, put-long, put-higher}
 use Rattle.laws.specs.Tables.{kept-seats}
 use borrow.Author.Needs.{needs}
+use Rattle.seats.proofs.Written.{starts-back, bodies-back}
 use Rattle.seats.proofs.keep_seats.Statement.{statement}
 use Rattle.seats.proofs.keep_seats.Tie as tie
 
@@ -22,9 +23,7 @@ unfolding decode
 kept-both F ws y z n long e long′ e′ =
     let first : length y ≡ 256 = long ∙ sized-decode ws n .starts in
     let n′ : length (put 2304 256 ws y) ≡ 4096 = put-long 2304 256 ws y (omega arith) first ∙ n in
-    let bodies : z ≡ F (take 256 (drop 2560 ws)) = e′ ∙ ap F (put-higher 2304 256 ws y (omega arith) first 2560 256 (omega arith)) in
-    decode-bodies (put 2304 256 ws y) z n′ (long′ ∙ sized-decode (put 2304 256 ws y) n′ .bodies)
-    ∙ (λ i. with-bodies (bodies i) ((decode-starts ws y n first ∙ ap (λ (l : List ℕ). with-starts l (decode ws)) e) i))
+    bodies-back (put 2304 256 ws y) z _ n′ (e′ ∙ ap F (put-higher 2304 256 ws y (omega arith) first 2560 256 (omega arith))) long′ ∙ ap (with-bodies (F (decode ws .bodies))) (starts-back ws y _ n e long)
 
 sub-keep-flagged : tie.Need-sub-keep-flagged
 sub-keep-flagged c = search needs

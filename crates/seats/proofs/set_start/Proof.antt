@@ -1,10 +1,7 @@
 -- `seats::set_start` meets its contract. Assumes nothing.
-use mathlib.Core.Path.{ap, _∙_}
-use mathlib.Core.List.{List}
-use Prim.Native.Nat.{ℕ}
 use Rattle.model.specs.Layout.{decode}
-use Rattle.laws.specs.Tables.{with-starts, decode-starts, sized-decode}
 use borrow.Author.Needs.{needs}
+use Rattle.seats.proofs.Written.{starts-back}
 use Rattle.seats.proofs.set_start.Statement.{statement}
 use Rattle.seats.proofs.set_start.Tie as tie
 
@@ -28,9 +25,7 @@ unfolding decode
 returns c =
     let at-call = c .before .before in
     let at-start = at-call .before .before .before in
-    let ws = at-start .args .words .now in
-    let n = at-start .pre .0 in
-    decode-starts ws (at-call .store .last .0) n (at-call .store .kept .0 ∙ sized-decode ws n .starts) ∙ ap (λ (l : List ℕ). with-starts l (decode ws)) (at-call .store .ensures)
+    starts-back (at-start .args .words .now) (at-call .store .last .0) _ (at-start .pre .0) (at-call .store .ensures) (at-call .store .kept .0)
 
 pub set-start-spec : {M : Type 1} → statement M
 set-start-spec =

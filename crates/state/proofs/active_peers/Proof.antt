@@ -5,12 +5,9 @@ use borrow.Author.Needs.{needs}
 use Rattle.state.proofs.active_peers.Statement.{statement}
 use Rattle.state.proofs.active_peers.Tie as tie
 
-active-downloading-peers-requires : tie.Need-active-downloading-peers-requires
-active-downloading-peers-requires c κs = search needs
-
 returns : tie.Need-returns
 unfolding window-of read active
 returns c = c .active-downloading-peers .ensures
 
 pub active-peers-spec : {M : Type 1} → statement M
-active-peers-spec = tie.close (tie.spec active-downloading-peers-requires returns)
+active-peers-spec = tie.close (tie.spec (λ c κs. search needs) returns)

@@ -4,12 +4,9 @@ use borrow.Author.Needs.{needs}
 use Rattle.state.proofs.body_of.Statement.{statement}
 use Rattle.state.proofs.body_of.Tie as tie
 
-body-of-requires : tie.Need-body-of-requires
-body-of-requires c κs = search needs
-
 returns : tie.Need-returns
 unfolding window-of read
 returns c = c .body-of .ensures
 
 pub body-of-spec : {M : Type 1} → statement M
-body-of-spec = tie.close (tie.spec body-of-requires returns)
+body-of-spec = tie.close (tie.spec (λ c κs. search needs) returns)

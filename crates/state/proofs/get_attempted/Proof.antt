@@ -4,12 +4,9 @@ use borrow.Author.Needs.{needs}
 use Rattle.state.proofs.get_attempted.Statement.{statement}
 use Rattle.state.proofs.get_attempted.Tie as tie
 
-load-attempted-requires : tie.Need-load-attempted-requires
-load-attempted-requires c κs = search needs
-
 returns : tie.Need-returns
 unfolding window-of read
 returns c = c .load-attempted .ensures
 
 pub get-attempted-spec : {M : Type 1} → statement M
-get-attempted-spec = tie.close (tie.spec load-attempted-requires returns)
+get-attempted-spec = tie.close (tie.spec (λ c κs. search needs) returns)

@@ -4,12 +4,9 @@ use borrow.Author.Needs.{needs}
 use Rattle.state.proofs.get_cold.Statement.{statement}
 use Rattle.state.proofs.get_cold.Tie as tie
 
-load-cold-requires : tie.Need-load-cold-requires
-load-cold-requires c κs = search needs
-
 returns : tie.Need-returns
 unfolding window-of read
 returns c = c .load-cold .ensures
 
 pub get-cold-spec : {M : Type 1} → statement M
-get-cold-spec = tie.close (tie.spec load-cold-requires returns)
+get-cold-spec = tie.close (tie.spec (λ c κs. search needs) returns)

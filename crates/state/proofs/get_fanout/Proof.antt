@@ -5,12 +5,9 @@ use borrow.Author.Needs.{needs}
 use Rattle.state.proofs.get_fanout.Statement.{statement}
 use Rattle.state.proofs.get_fanout.Tie as tie
 
-load-fanout-requires : tie.Need-load-fanout-requires
-load-fanout-requires c κs = search needs
-
 returns : tie.Need-returns
 unfolding window-of read fanout-of
 returns c = c .load-fanout .ensures
 
 pub get-fanout-spec : {M : Type 1} → statement M
-get-fanout-spec = tie.close (tie.spec load-fanout-requires returns)
+get-fanout-spec = tie.close (tie.spec (λ c κs. search needs) returns)

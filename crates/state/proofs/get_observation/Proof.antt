@@ -4,12 +4,9 @@ use borrow.Author.Needs.{needs}
 use Rattle.state.proofs.get_observation.Statement.{statement}
 use Rattle.state.proofs.get_observation.Tie as tie
 
-load-observation-requires : tie.Need-load-observation-requires
-load-observation-requires c κs = search needs
-
 returns : tie.Need-returns
 unfolding window-of read
 returns c = c .load-observation .ensures
 
 pub get-observation-spec : {M : Type 1} → statement M
-get-observation-spec = tie.close (tie.spec load-observation-requires returns)
+get-observation-spec = tie.close (tie.spec (λ c κs. search needs) returns)

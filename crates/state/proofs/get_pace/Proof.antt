@@ -4,12 +4,9 @@ use borrow.Author.Needs.{needs}
 use Rattle.state.proofs.get_pace.Statement.{statement}
 use Rattle.state.proofs.get_pace.Tie as tie
 
-load-pace-requires : tie.Need-load-pace-requires
-load-pace-requires c κs = search needs
-
 returns : tie.Need-returns
 unfolding window-of read
 returns c = c .load-pace .ensures
 
 pub get-pace-spec : {M : Type 1} → statement M
-get-pace-spec = tie.close (tie.spec load-pace-requires returns)
+get-pace-spec = tie.close (tie.spec (λ c κs. search needs) returns)

@@ -4,12 +4,9 @@ use borrow.Author.Needs.{needs}
 use Rattle.state.proofs.get_preferred.Statement.{statement}
 use Rattle.state.proofs.get_preferred.Tie as tie
 
-load-preferred-requires : tie.Need-load-preferred-requires
-load-preferred-requires c κs = search needs
-
 returns : tie.Need-returns
 unfolding window-of read
 returns c = c .load-preferred .ensures
 
 pub get-preferred-spec : {M : Type 1} → statement M
-get-preferred-spec = tie.close (tie.spec load-preferred-requires returns)
+get-preferred-spec = tie.close (tie.spec (λ c κs. search needs) returns)

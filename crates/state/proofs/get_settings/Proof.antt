@@ -4,12 +4,9 @@ use borrow.Author.Needs.{needs}
 use Rattle.state.proofs.get_settings.Statement.{statement}
 use Rattle.state.proofs.get_settings.Tie as tie
 
-load-settings-requires : tie.Need-load-settings-requires
-load-settings-requires c κs = search needs
-
 returns : tie.Need-returns
 unfolding window-of read
 returns c = c .load-settings .ensures
 
 pub get-settings-spec : {M : Type 1} → statement M
-get-settings-spec = tie.close (tie.spec load-settings-requires returns)
+get-settings-spec = tie.close (tie.spec (λ c κs. search needs) returns)

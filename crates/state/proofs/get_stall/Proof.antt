@@ -4,12 +4,9 @@ use borrow.Author.Needs.{needs}
 use Rattle.state.proofs.get_stall.Statement.{statement}
 use Rattle.state.proofs.get_stall.Tie as tie
 
-load-stall-requires : tie.Need-load-stall-requires
-load-stall-requires c κs = search needs
-
 returns : tie.Need-returns
 unfolding window-of read
 returns c = c .load-stall .ensures
 
 pub get-stall-spec : {M : Type 1} → statement M
-get-stall-spec = tie.close (tie.spec load-stall-requires returns)
+get-stall-spec = tie.close (tie.spec (λ c κs. search needs) returns)

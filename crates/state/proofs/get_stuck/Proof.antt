@@ -4,12 +4,9 @@ use borrow.Author.Needs.{needs}
 use Rattle.state.proofs.get_stuck.Statement.{statement}
 use Rattle.state.proofs.get_stuck.Tie as tie
 
-load-stuck-requires : tie.Need-load-stuck-requires
-load-stuck-requires c κs = search needs
-
 returns : tie.Need-returns
 unfolding window-of read
 returns c = c .load-stuck .ensures
 
 pub get-stuck-spec : {M : Type 1} → statement M
-get-stuck-spec = tie.close (tie.spec load-stuck-requires returns)
+get-stuck-spec = tie.close (tie.spec (λ c κs. search needs) returns)

@@ -5,12 +5,9 @@ use borrow.Author.Needs.{needs}
 use Rattle.state.proofs.key_of.Statement.{statement}
 use Rattle.state.proofs.key_of.Tie as tie
 
-key-of-requires : tie.Need-key-of-requires
-key-of-requires c κs = search needs
-
 returns : tie.Need-returns
 unfolding window-of read key-of
 returns c = c .key-of .ensures
 
 pub key-of-spec : {M : Type 1} → statement M
-key-of-spec = tie.close (tie.spec key-of-requires returns)
+key-of-spec = tie.close (tie.spec (λ c κs. search needs) returns)

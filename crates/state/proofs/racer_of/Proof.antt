@@ -4,12 +4,9 @@ use borrow.Author.Needs.{needs}
 use Rattle.state.proofs.racer_of.Statement.{statement}
 use Rattle.state.proofs.racer_of.Tie as tie
 
-racer-of-requires : tie.Need-racer-of-requires
-racer-of-requires c κs = search needs
-
 returns : tie.Need-returns
 unfolding window-of read
 returns c = c .racer-of .ensures
 
 pub racer-of-spec : {M : Type 1} → statement M
-racer-of-spec = tie.close (tie.spec racer-of-requires returns)
+racer-of-spec = tie.close (tie.spec (λ c κs. search needs) returns)

@@ -8,12 +8,6 @@ use borrow.Author.Needs.{needs}
 use Rattle.state.proofs.set_attempted.Statement.{statement}
 use Rattle.state.proofs.set_attempted.Tie as tie
 
-store-attempted-requires : tie.Need-store-attempted-requires
-store-attempted-requires c κs = search needs
-
-same-length : tie.Need-same-length
-same-length c = search needs
-
 returns : tie.Need-returns
 returns c =
     let start = c .before .before .before .before .before in
@@ -22,4 +16,4 @@ returns c =
     lifted ws _ (with-words 26 (source-word (start .args .x) ∷ [])) _ whole (c .before .before .store-attempted .kept .0) (c .before .before .store-attempted .ensures) (attempted-in (window-of ws) (start .args .x)) (words-shaped ws (whole .long))
 
 pub set-attempted-spec : {M : Type 1} → statement M
-set-attempted-spec = tie.close (tie.spec store-attempted-requires same-length returns)
+set-attempted-spec = tie.close (tie.spec (λ c κs. search needs) (λ c. search needs) returns)

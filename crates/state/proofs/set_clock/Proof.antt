@@ -8,12 +8,6 @@ use borrow.Author.Needs.{needs}
 use Rattle.state.proofs.set_clock.Statement.{statement}
 use Rattle.state.proofs.set_clock.Tie as tie
 
-set-word-requires : tie.Need-set-word-requires
-set-word-requires c κs = search needs
-
-same-length : tie.Need-same-length
-same-length c = search needs
-
 returns : tie.Need-returns
 returns c =
     let start = c .before .before .before .before .before in
@@ -22,4 +16,4 @@ returns c =
     lifted ws _ (with-words 2 (start .args .c ∷ [])) _ whole (c .before .before .set-word .kept .0) (c .before .before .set-word .ensures) (clock-in (window-of ws) (start .args .c)) (words-shaped ws (whole .long))
 
 pub set-clock-spec : {M : Type 1} → statement M
-set-clock-spec = tie.close (tie.spec set-word-requires same-length returns)
+set-clock-spec = tie.close (tie.spec (λ c κs. search needs) (λ c. search needs) returns)

@@ -7,12 +7,6 @@ use borrow.Author.Needs.{needs}
 use Rattle.state.proofs.set_cold.Statement.{statement}
 use Rattle.state.proofs.set_cold.Tie as tie
 
-store-cold-requires : tie.Need-store-cold-requires
-store-cold-requires c κs = search needs
-
-same-length : tie.Need-same-length
-same-length c = search needs
-
 returns : tie.Need-returns
 returns c =
     let start = c .before .before .before .before .before in
@@ -21,4 +15,4 @@ returns c =
     lifted ws _ (with-words 39 (cold-words (start .args .x))) _ whole (c .before .before .store-cold .kept .0) (c .before .before .store-cold .ensures) (cold-in (window-of ws) (start .args .x)) (words-shaped ws (whole .long))
 
 pub set-cold-spec : {M : Type 1} → statement M
-set-cold-spec = tie.close (tie.spec store-cold-requires same-length returns)
+set-cold-spec = tie.close (tie.spec (λ c κs. search needs) (λ c. search needs) returns)

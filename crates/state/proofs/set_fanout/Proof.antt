@@ -8,12 +8,6 @@ use borrow.Author.Needs.{needs}
 use Rattle.state.proofs.set_fanout.Statement.{statement}
 use Rattle.state.proofs.set_fanout.Tie as tie
 
-store-fanout-requires : tie.Need-store-fanout-requires
-store-fanout-requires c κs = search needs
-
-same-length : tie.Need-same-length
-same-length c = search needs
-
 returns : tie.Need-returns
 unfolding fanout-list
 returns c =
@@ -23,4 +17,4 @@ returns c =
     lifted ws _ (with-words 20 (fanout-list (start .args .f))) _ whole (c .before .before .store-fanout .kept .0) (c .before .before .store-fanout .ensures) (fanout-in (window-of ws) (start .args .f)) (words-shaped ws (whole .long))
 
 pub set-fanout-spec : {M : Type 1} → statement M
-set-fanout-spec = tie.close (tie.spec store-fanout-requires same-length returns)
+set-fanout-spec = tie.close (tie.spec (λ c κs. search needs) (λ c. search needs) returns)

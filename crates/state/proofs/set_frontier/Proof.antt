@@ -8,12 +8,6 @@ use borrow.Author.Needs.{needs}
 use Rattle.state.proofs.set_frontier.Statement.{statement}
 use Rattle.state.proofs.set_frontier.Tie as tie
 
-set-word-requires : tie.Need-set-word-requires
-set-word-requires c κs = search needs
-
-same-length : tie.Need-same-length
-same-length c = search needs
-
 returns : tie.Need-returns
 returns c =
     let start = c .before .before .before .before .before in
@@ -22,4 +16,4 @@ returns c =
     lifted ws _ (with-words 7 (start .args .f ∷ [])) _ whole (c .before .before .set-word .kept .0) (c .before .before .set-word .ensures) (frontier-in (window-of ws) (start .args .f)) (words-shaped ws (whole .long))
 
 pub set-frontier-spec : {M : Type 1} → statement M
-set-frontier-spec = tie.close (tie.spec set-word-requires same-length returns)
+set-frontier-spec = tie.close (tie.spec (λ c κs. search needs) (λ c. search needs) returns)

@@ -8,12 +8,6 @@ use borrow.Author.Needs.{needs}
 use Rattle.state.proofs.set_mean.Statement.{statement}
 use Rattle.state.proofs.set_mean.Tie as tie
 
-set-word-requires : tie.Need-set-word-requires
-set-word-requires c κs = search needs
-
-same-length : tie.Need-same-length
-same-length c = search needs
-
 returns : tie.Need-returns
 returns c =
     let start = c .before .before .before .before .before in
@@ -22,4 +16,4 @@ returns c =
     lifted ws _ (with-words 6 (start .args .m ∷ [])) _ whole (c .before .before .set-word .kept .0) (c .before .before .set-word .ensures) (mean-in (window-of ws) (start .args .m)) (words-shaped ws (whole .long))
 
 pub set-mean-spec : {M : Type 1} → statement M
-set-mean-spec = tie.close (tie.spec set-word-requires same-length returns)
+set-mean-spec = tie.close (tie.spec (λ c κs. search needs) (λ c. search needs) returns)

@@ -7,12 +7,6 @@ use borrow.Author.Needs.{needs}
 use Rattle.state.proofs.set_observation.Statement.{statement}
 use Rattle.state.proofs.set_observation.Tie as tie
 
-store-observation-requires : tie.Need-store-observation-requires
-store-observation-requires c κs = search needs
-
-same-length : tie.Need-same-length
-same-length c = search needs
-
 returns : tie.Need-returns
 returns c =
     let start = c .before .before .before .before .before in
@@ -21,4 +15,4 @@ returns c =
     lifted ws _ (with-words 55 (observation-words (start .args .x))) _ whole (c .before .before .store-observation .kept .0) (c .before .before .store-observation .ensures) (observation-in (window-of ws) (words-shaped ws (whole .long)) (start .args .x)) (words-shaped ws (whole .long))
 
 pub set-observation-spec : {M : Type 1} → statement M
-set-observation-spec = tie.close (tie.spec store-observation-requires same-length returns)
+set-observation-spec = tie.close (tie.spec (λ c κs. search needs) (λ c. search needs) returns)

@@ -8,12 +8,6 @@ use borrow.Author.Needs.{needs}
 use Rattle.state.proofs.set_pace.Statement.{statement}
 use Rattle.state.proofs.set_pace.Tie as tie
 
-store-pace-requires : tie.Need-store-pace-requires
-store-pace-requires c κs = search needs
-
-same-length : tie.Need-same-length
-same-length c = search needs
-
 returns : tie.Need-returns
 unfolding pace-list
 returns c =
@@ -23,4 +17,4 @@ returns c =
     lifted ws _ (with-words 22 (pace-list (start .args .p))) _ whole (c .before .before .store-pace .kept .0) (c .before .before .store-pace .ensures) (pace-in (window-of ws) (start .args .p)) (words-shaped ws (whole .long))
 
 pub set-pace-spec : {M : Type 1} → statement M
-set-pace-spec = tie.close (tie.spec store-pace-requires same-length returns)
+set-pace-spec = tie.close (tie.spec (λ c κs. search needs) (λ c. search needs) returns)

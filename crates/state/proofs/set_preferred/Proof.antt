@@ -8,12 +8,6 @@ use borrow.Author.Needs.{needs}
 use Rattle.state.proofs.set_preferred.Statement.{statement}
 use Rattle.state.proofs.set_preferred.Tie as tie
 
-store-preferred-requires : tie.Need-store-preferred-requires
-store-preferred-requires c κs = search needs
-
-same-length : tie.Need-same-length
-same-length c = search needs
-
 returns : tie.Need-returns
 returns c =
     let start = c .before .before .before .before .before in
@@ -22,4 +16,4 @@ returns c =
     lifted ws _ (with-words 25 (source-word (start .args .x) ∷ [])) _ whole (c .before .before .store-preferred .kept .0) (c .before .before .store-preferred .ensures) (preferred-in (window-of ws) (start .args .x)) (words-shaped ws (whole .long))
 
 pub set-preferred-spec : {M : Type 1} → statement M
-set-preferred-spec = tie.close (tie.spec store-preferred-requires same-length returns)
+set-preferred-spec = tie.close (tie.spec (λ c κs. search needs) (λ c. search needs) returns)

@@ -7,12 +7,6 @@ use borrow.Author.Needs.{needs}
 use Rattle.state.proofs.set_stall.Statement.{statement}
 use Rattle.state.proofs.set_stall.Tie as tie
 
-store-stall-requires : tie.Need-store-stall-requires
-store-stall-requires c κs = search needs
-
-same-length : tie.Need-same-length
-same-length c = search needs
-
 returns : tie.Need-returns
 returns c =
     let start = c .before .before .before .before .before in
@@ -21,4 +15,4 @@ returns c =
     lifted ws _ (with-words 27 (stall-words (start .args .x))) _ whole (c .before .before .store-stall .kept .0) (c .before .before .store-stall .ensures) (stall-in (window-of ws) (start .args .x)) (words-shaped ws (whole .long))
 
 pub set-stall-spec : {M : Type 1} → statement M
-set-stall-spec = tie.close (tie.spec store-stall-requires same-length returns)
+set-stall-spec = tie.close (tie.spec (λ c κs. search needs) (λ c. search needs) returns)

@@ -7,12 +7,6 @@ use borrow.Author.Needs.{needs}
 use Rattle.state.proofs.set_stuck.Statement.{statement}
 use Rattle.state.proofs.set_stuck.Tie as tie
 
-store-stuck-requires : tie.Need-store-stuck-requires
-store-stuck-requires c κs = search needs
-
-same-length : tie.Need-same-length
-same-length c = search needs
-
 returns : tie.Need-returns
 returns c =
     let start = c .before .before .before .before .before in
@@ -21,4 +15,4 @@ returns c =
     lifted ws _ (with-words 33 (stuck-words (start .args .x))) _ whole (c .before .before .store-stuck .kept .0) (c .before .before .store-stuck .ensures) (stuck-in (window-of ws) (start .args .x)) (words-shaped ws (whole .long))
 
 pub set-stuck-spec : {M : Type 1} → statement M
-set-stuck-spec = tie.close (tie.spec store-stuck-requires same-length returns)
+set-stuck-spec = tie.close (tie.spec (λ c κs. search needs) (λ c. search needs) returns)

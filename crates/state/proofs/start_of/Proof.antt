@@ -4,12 +4,9 @@ use borrow.Author.Needs.{needs}
 use Rattle.state.proofs.start_of.Statement.{statement}
 use Rattle.state.proofs.start_of.Tie as tie
 
-start-of-requires : tie.Need-start-of-requires
-start-of-requires c κs = search needs
-
 returns : tie.Need-returns
 unfolding window-of read
 returns c = c .start-of .ensures
 
 pub start-of-spec : {M : Type 1} → statement M
-start-of-spec = tie.close (tie.spec start-of-requires returns)
+start-of-spec = tie.close (tie.spec (λ c κs. search needs) returns)
