@@ -4,6 +4,7 @@ use Rattle.model.specs.Layout.{window-of}
 use Rattle.model.specs.Races.{prefix-probe-plan}
 use Rattle.probe_plan.specs.Plans.{header-planned}
 use Rattle.probe_hashes.specs.Rows.{plan-said}
+use Rattle.plans.specs.Rows.{rows-words}
 use borrow.Author.Needs.{needs}
 use Rattle.probe_hashes.proofs.prefix_probe_plan.Statement.{statement}
 use Rattle.probe_hashes.proofs.prefix_probe_plan.Tie as tie
@@ -21,6 +22,7 @@ planned-list-requires : tie.Need-planned-list-requires
 planned-list-requires c κs = search needs
 
 returns : tie.Need-returns
+unfolding rows-words
 returns c =
     let w = window-of (c .before .before .before .before .before .args .words .now) in
     let p = c .before .before .before .make-plan in
