@@ -6,7 +6,7 @@ use Prim.Native.Nat.{ℕ, _-_, _≤_, _<_}
 use native.Mathlib.Numerals.{add-one}
 use native.Mathlib.Omega.{arith}
 use lib.ListN.{length, getD}
-use Rattle.model.specs.Layout.{window-of, blank}
+use Rattle.model.specs.Layout.{window-of}
 use Rattle.model.specs.declared.Entry.{Entry}
 use Rattle.prefix_probe.specs.Walks.{behind, follows, lower-in, first-in, Walking, Searching, Found, walk-start, walk-over, walk-behind, walk-full, walk-gap, walk-step, search-start, search-behind, search-step, search-done, gap-met, gap-left, limit-met, limit-left}
 use borrow.Author.Needs.{needs}

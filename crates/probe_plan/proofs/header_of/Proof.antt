@@ -1,5 +1,5 @@
 -- `probe_plan::header_of` meets its contract. Assumes nothing.
-use mathlib.Core.Path.{sym, ap}
+use mathlib.Core.Path.{ap}
 use Prim.Native.Nat.{ℕ}
 use native.Mathlib.Omega.{arith}
 use borrow.Author.Tests.{lt-leb, le-leb}
