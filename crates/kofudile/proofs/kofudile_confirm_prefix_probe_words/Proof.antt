@@ -5,17 +5,8 @@ use borrow.Author.Needs.{needs}
 use Rattle.kofudile.proofs.kofudile_confirm_prefix_probe_words.Statement.{statement}
 use Rattle.kofudile.proofs.kofudile_confirm_prefix_probe_words.Tie as tie
 
-confirm-prefix-probe-requires : tie.Need-confirm-prefix-probe-requires
-confirm-prefix-probe-requires c κs = search needs
-
-of-accepted-requires : tie.Need-of-accepted-requires
-of-accepted-requires c κs = search needs
-
-same-length : tie.Need-same-length
-same-length c = search needs
-
 returns : tie.Need-returns
 returns c = (c .of-accepted .ensures ∙ ap done-flat (c .before .before .before .confirm-prefix-probe .ensures .0), c .before .before .before .confirm-prefix-probe .ensures .1)
 
 pub kofudile-confirm-prefix-probe-words-spec : {M : Type 1} → statement M
-kofudile-confirm-prefix-probe-words-spec = tie.close (tie.spec confirm-prefix-probe-requires of-accepted-requires same-length returns)
+kofudile-confirm-prefix-probe-words-spec = tie.close (tie.spec (λ c κs. search needs) (λ c κs. search needs) (λ c. search needs) returns)

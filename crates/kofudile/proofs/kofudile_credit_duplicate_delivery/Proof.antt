@@ -5,19 +5,10 @@ use borrow.Author.Needs.{needs}
 use Rattle.kofudile.proofs.kofudile_credit_duplicate_delivery.Statement.{statement}
 use Rattle.kofudile.proofs.kofudile_credit_duplicate_delivery.Tie as tie
 
-credit-duplicate-delivery-requires : tie.Need-credit-duplicate-delivery-requires
-credit-duplicate-delivery-requires c κs = search needs
-
-of-accepted-requires : tie.Need-of-accepted-requires
-of-accepted-requires c κs = search needs
-
-same-length : tie.Need-same-length
-same-length c = search needs
-
 returns : tie.Need-returns
 returns c = (c .of-accepted .ensures ∙ ap done-flat (c .before .before .before .credit-duplicate-delivery .ensures .0), c .before .before .before .credit-duplicate-delivery .ensures .1)
 
 pub kofudile-credit-duplicate-delivery-spec : {M : Type 1} → statement M
 kofudile-credit-duplicate-delivery-spec =
     tie.close
-    (tie.spec credit-duplicate-delivery-requires of-accepted-requires same-length returns)
+    (tie.spec (λ c κs. search needs) (λ c κs. search needs) (λ c. search needs) returns)

@@ -5,18 +5,9 @@ use borrow.Author.Needs.{needs}
 use Rattle.kofudile.proofs.kofudile_mark_owned_fetch.Statement.{statement}
 use Rattle.kofudile.proofs.kofudile_mark_owned_fetch.Tie as tie
 
-mark-owned-fetch-requires : tie.Need-mark-owned-fetch-requires
-mark-owned-fetch-requires c κs = search needs
-
-of-fetch-requires : tie.Need-of-fetch-requires
-of-fetch-requires c κs = search needs
-
-same-length : tie.Need-same-length
-same-length c = search needs
-
 returns : tie.Need-returns
 returns c = (c .of-fetch .ensures ∙ ap number-flat (c .before .before .before .mark-owned-fetch .ensures .0), c .before .before .before .mark-owned-fetch .ensures .1)
 
 pub kofudile-mark-owned-fetch-spec : {M : Type 1} → statement M
 kofudile-mark-owned-fetch-spec =
-    tie.close (tie.spec mark-owned-fetch-requires of-fetch-requires same-length returns)
+    tie.close (tie.spec (λ c κs. search needs) (λ c κs. search needs) (λ c. search needs) returns)

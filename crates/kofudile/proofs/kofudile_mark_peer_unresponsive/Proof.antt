@@ -5,18 +5,9 @@ use borrow.Author.Needs.{needs}
 use Rattle.kofudile.proofs.kofudile_mark_peer_unresponsive.Statement.{statement}
 use Rattle.kofudile.proofs.kofudile_mark_peer_unresponsive.Tie as tie
 
-mark-peer-unresponsive-requires : tie.Need-mark-peer-unresponsive-requires
-mark-peer-unresponsive-requires c κs = search needs
-
-of-accepted-requires : tie.Need-of-accepted-requires
-of-accepted-requires c κs = search needs
-
-same-length : tie.Need-same-length
-same-length c = search needs
-
 returns : tie.Need-returns
 returns c = (c .of-accepted .ensures ∙ ap done-flat (c .before .before .before .mark-peer-unresponsive .ensures .0), c .before .before .before .mark-peer-unresponsive .ensures .1)
 
 pub kofudile-mark-peer-unresponsive-spec : {M : Type 1} → statement M
 kofudile-mark-peer-unresponsive-spec =
-    tie.close (tie.spec mark-peer-unresponsive-requires of-accepted-requires same-length returns)
+    tie.close (tie.spec (λ c κs. search needs) (λ c κs. search needs) (λ c. search needs) returns)

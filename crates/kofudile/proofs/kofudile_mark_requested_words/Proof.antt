@@ -5,17 +5,8 @@ use borrow.Author.Needs.{needs}
 use Rattle.kofudile.proofs.kofudile_mark_requested_words.Statement.{statement}
 use Rattle.kofudile.proofs.kofudile_mark_requested_words.Tie as tie
 
-mark-requested-requires : tie.Need-mark-requested-requires
-mark-requested-requires c κs = search needs
-
-of-requested-requires : tie.Need-of-requested-requires
-of-requested-requires c κs = search needs
-
-same-length : tie.Need-same-length
-same-length c = search needs
-
 returns : tie.Need-returns
 returns c = (c .of-requested .ensures ∙ ap number-flat (c .before .before .before .mark-requested .ensures .0), c .before .before .before .mark-requested .ensures .1)
 
 pub kofudile-mark-requested-words-spec : {M : Type 1} → statement M
-kofudile-mark-requested-words-spec = tie.close (tie.spec mark-requested-requires of-requested-requires same-length returns)
+kofudile-mark-requested-words-spec = tie.close (tie.spec (λ c κs. search needs) (λ c κs. search needs) (λ c. search needs) returns)

@@ -1,5 +1,5 @@
 -- `kofudile::kofudile_observe_blocked` meets its contract. Assumes nothing.
-use mathlib.Core.Path.{_≡_, ap, _∙_}
+use mathlib.Core.Path.{ap, _∙_}
 use mathlib.Core.List.{[]}
 use Rattle.model.specs.Refusals.{changes, observes}
 use Rattle.model.specs.Perform.{perform}
@@ -8,24 +8,6 @@ use Rattle.flat.specs.Flat.{blocked-flat}
 use borrow.Author.Needs.{needs}
 use Rattle.kofudile.proofs.kofudile_observe_blocked.Statement.{statement}
 use Rattle.kofudile.proofs.kofudile_observe_blocked.Tie as tie
-
-height-of-requires : tie.Need-height-of-requires
-height-of-requires c κs = search needs
-
-sought-of-requires : tie.Need-sought-of-requires
-sought-of-requires c κs = search needs
-
-height-of-requires-2 : tie.Need-height-of-requires-2
-height-of-requires-2 c κs = search needs
-
-observe-blocked-requires : tie.Need-observe-blocked-requires
-observe-blocked-requires c κs = search needs
-
-of-blocked-requires : tie.Need-of-blocked-requires
-of-blocked-requires c κs = search needs
-
-same-length : tie.Need-same-length
-same-length c = search needs
 
 returns : tie.Need-returns
 returns c =
@@ -39,4 +21,4 @@ returns c =
 
 pub kofudile-observe-blocked-spec : {M : Type 1} → statement M
 kofudile-observe-blocked-spec =
-    tie.close (tie.spec height-of-requires sought-of-requires height-of-requires-2 observe-blocked-requires of-blocked-requires same-length returns)
+    tie.close (tie.spec (λ c κs. search needs) (λ c κs. search needs) (λ c κs. search needs) (λ c κs. search needs) (λ c κs. search needs) (λ c. search needs) returns)

@@ -5,19 +5,10 @@ use borrow.Author.Needs.{needs}
 use Rattle.kofudile.proofs.kofudile_set_fanout_eligible_peers.Statement.{statement}
 use Rattle.kofudile.proofs.kofudile_set_fanout_eligible_peers.Tie as tie
 
-set-fanout-eligible-peers-requires : tie.Need-set-fanout-eligible-peers-requires
-set-fanout-eligible-peers-requires c κs = search needs
-
-of-accepted-requires : tie.Need-of-accepted-requires
-of-accepted-requires c κs = search needs
-
-same-length : tie.Need-same-length
-same-length c = search needs
-
 returns : tie.Need-returns
 returns c = (c .of-accepted .ensures ∙ ap done-flat (c .before .before .before .set-fanout-eligible-peers .ensures .0), c .before .before .before .set-fanout-eligible-peers .ensures .1)
 
 pub kofudile-set-fanout-eligible-peers-spec : {M : Type 1} → statement M
 kofudile-set-fanout-eligible-peers-spec =
     tie.close
-    (tie.spec set-fanout-eligible-peers-requires of-accepted-requires same-length returns)
+    (tie.spec (λ c κs. search needs) (λ c κs. search needs) (λ c. search needs) returns)

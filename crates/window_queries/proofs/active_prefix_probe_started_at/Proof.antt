@@ -8,20 +8,14 @@ use borrow.Author.Needs.{needs}
 use Rattle.window_queries.proofs.active_prefix_probe_started_at.Statement.{statement}
 use Rattle.window_queries.proofs.active_prefix_probe_started_at.Tie as tie
 
-refused-by-requires : tie.Need-refused-by-requires
-refused-by-requires c κs = search needs
-
 returns : tie.Need-returns
 returns c = query-refused _ _ _ (c .before .refused-by .ensures) (c .if1 .taken)
 
 get-probe-requires : tie.Need-get-probe-requires
 get-probe-requires c κs = admitted _ _ 0 _ (c .before .refused-by .ensures) (c .if1 .left) .whole .long
 
-perhaps-started-requires : tie.Need-perhaps-started-requires
-perhaps-started-requires c κs = search needs
-
 returns-2 : tie.Need-returns-2
 returns-2 c = query-answered _ _ _ _ (c .before .before .before .refused-by .ensures) (c .before .before .if1 .left) (c .perhaps-started .ensures ∙ ap (λ (p : Probe). says 0 (probe-values p)) (c .before .get-probe .ensures))
 
 pub active-prefix-probe-started-at-spec : {M : Type 1} → statement M
-active-prefix-probe-started-at-spec = tie.close (tie.spec refused-by-requires returns get-probe-requires perhaps-started-requires returns-2)
+active-prefix-probe-started-at-spec = tie.close (tie.spec (λ c κs. search needs) returns get-probe-requires (λ c κs. search needs) returns-2)

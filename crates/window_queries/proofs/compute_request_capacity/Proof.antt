@@ -8,20 +8,14 @@ use borrow.Author.Needs.{needs}
 use Rattle.window_queries.proofs.compute_request_capacity.Statement.{statement}
 use Rattle.window_queries.proofs.compute_request_capacity.Tie as tie
 
-refused-by-requires : tie.Need-refused-by-requires
-refused-by-requires c κs = search needs
-
 returns : tie.Need-returns
 returns c = query-refused _ _ _ (c .before .refused-by .ensures) (c .if1 .taken)
 
 compute-request-capacity-requires : tie.Need-compute-request-capacity-requires
 compute-request-capacity-requires c κs = admitted _ _ 0 _ (c .before .refused-by .ensures) (c .if1 .left) .whole
 
-perhaps-batch-requires : tie.Need-perhaps-batch-requires
-perhaps-batch-requires c κs = search needs
-
 returns-2 : tie.Need-returns-2
 returns-2 c = query-answered _ _ _ _ (c .before .before .before .refused-by .ensures) (c .before .before .if1 .left) (c .perhaps-batch .ensures ∙ ap (λ (k : Capacity). says 0 (capacity-values k)) (c .before .compute-request-capacity .ensures))
 
 pub compute-request-capacity-spec : {M : Type 1} → statement M
-compute-request-capacity-spec = tie.close (tie.spec refused-by-requires returns compute-request-capacity-requires perhaps-batch-requires returns-2)
+compute-request-capacity-spec = tie.close (tie.spec (λ c κs. search needs) returns compute-request-capacity-requires (λ c κs. search needs) returns-2)

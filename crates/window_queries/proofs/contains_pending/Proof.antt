@@ -7,9 +7,6 @@ use borrow.Author.Needs.{needs}
 use Rattle.window_queries.proofs.contains_pending.Statement.{statement}
 use Rattle.window_queries.proofs.contains_pending.Tie as tie
 
-refused-by-requires : tie.Need-refused-by-requires
-refused-by-requires c κs = search needs
-
 returns : tie.Need-returns
 returns c = query-refused _ _ _ (c .before .refused-by .ensures) (c .if1 .taken)
 
@@ -25,4 +22,4 @@ returns-3 : tie.Need-returns-3
 returns-3 c = query-answered _ _ _ _ (c .before .before .before .refused-by .ensures) (c .before .before .if1 .left) (ap truth (sym (c .if2 .left) ∙ c .before .contains-pending .ensures))
 
 pub contains-pending-spec : {M : Type 1} → statement M
-contains-pending-spec = tie.close (tie.spec refused-by-requires returns contains-pending-requires returns-2 returns-3)
+contains-pending-spec = tie.close (tie.spec (λ c κs. search needs) returns contains-pending-requires returns-2 returns-3)

@@ -6,9 +6,6 @@ use borrow.Author.Needs.{needs}
 use Rattle.window_queries.proofs.effective_owner_timeout.Statement.{statement}
 use Rattle.window_queries.proofs.effective_owner_timeout.Tie as tie
 
-refused-by-requires : tie.Need-refused-by-requires
-refused-by-requires c κs = search needs
-
 returns : tie.Need-returns
 returns c = query-refused _ _ _ (c .before .refused-by .ensures) (c .if1 .taken)
 
@@ -21,4 +18,4 @@ returns-2 : tie.Need-returns-2
 returns-2 c = query-answered _ _ _ _ (c .before .before .refused-by .ensures) (c .before .if1 .left) (ap number (c .timeout-of .ensures))
 
 pub effective-owner-timeout-spec : {M : Type 1} → statement M
-effective-owner-timeout-spec = tie.close (tie.spec refused-by-requires returns timeout-of-requires returns-2)
+effective-owner-timeout-spec = tie.close (tie.spec (λ c κs. search needs) returns timeout-of-requires returns-2)

@@ -6,9 +6,6 @@ use borrow.Author.Needs.{needs}
 use Rattle.window_queries.proofs.expired_pending_capacity.Statement.{statement}
 use Rattle.window_queries.proofs.expired_pending_capacity.Tie as tie
 
-refused-by-at-requires : tie.Need-refused-by-at-requires
-refused-by-at-requires c κs = search needs
-
 returns : tie.Need-returns
 returns c = query-refused _ _ _ (c .before .refused-by-at .ensures) (c .if1 .taken)
 
@@ -23,4 +20,4 @@ unfolding read-clock
 returns-2 c = query-answered _ _ _ _ (c .before .before .refused-by-at .ensures) (c .before .if1 .left) (λ i. pair (c .expired-pending-capacity .ensures .0 i) (c .expired-pending-capacity .ensures .1 i))
 
 pub expired-pending-capacity-spec : {M : Type 1} → statement M
-expired-pending-capacity-spec = tie.close (tie.spec refused-by-at-requires returns expired-pending-capacity-requires returns-2)
+expired-pending-capacity-spec = tie.close (tie.spec (λ c κs. search needs) returns expired-pending-capacity-requires returns-2)

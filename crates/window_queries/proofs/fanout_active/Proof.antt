@@ -7,9 +7,6 @@ use borrow.Author.Needs.{needs}
 use Rattle.window_queries.proofs.fanout_active.Statement.{statement}
 use Rattle.window_queries.proofs.fanout_active.Tie as tie
 
-refused-by-requires : tie.Need-refused-by-requires
-refused-by-requires c κs = search needs
-
 returns : tie.Need-returns
 returns c = query-refused _ _ _ (c .before .refused-by .ensures) (c .if1 .taken)
 
@@ -23,4 +20,4 @@ returns-3 : tie.Need-returns-3
 returns-3 c = query-answered _ _ _ _ (c .before .before .before .refused-by .ensures) (c .before .before .if1 .left) (ap truth (sym (c .if2 .left) ∙ ap (λ (f : Fanout). f .engaged) (c .before .get-fanout .ensures)))
 
 pub fanout-active-spec : {M : Type 1} → statement M
-fanout-active-spec = tie.close (tie.spec refused-by-requires returns get-fanout-requires returns-2 returns-3)
+fanout-active-spec = tie.close (tie.spec (λ c κs. search needs) returns get-fanout-requires returns-2 returns-3)

@@ -6,9 +6,6 @@ use borrow.Author.Needs.{needs}
 use Rattle.window_queries.proofs.has_request_capacity.Statement.{statement}
 use Rattle.window_queries.proofs.has_request_capacity.Tie as tie
 
-refused-by-requires : tie.Need-refused-by-requires
-refused-by-requires c κs = search needs
-
 returns : tie.Need-returns
 returns c = query-refused _ _ _ (c .before .refused-by .ensures) (c .if1 .taken)
 
@@ -22,4 +19,4 @@ returns-3 : tie.Need-returns-3
 returns-3 c = query-answered _ _ _ _ (c .before .before .before .refused-by .ensures) (c .before .before .if1 .left) (ap truth (sym (c .if2 .left) ∙ c .before .has-request-capacity .ensures))
 
 pub has-request-capacity-spec : {M : Type 1} → statement M
-has-request-capacity-spec = tie.close (tie.spec refused-by-requires returns has-request-capacity-requires returns-2 returns-3)
+has-request-capacity-spec = tie.close (tie.spec (λ c κs. search needs) returns has-request-capacity-requires returns-2 returns-3)

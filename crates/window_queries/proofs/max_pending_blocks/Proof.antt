@@ -7,9 +7,6 @@ use borrow.Author.Needs.{needs}
 use Rattle.window_queries.proofs.max_pending_blocks.Statement.{statement}
 use Rattle.window_queries.proofs.max_pending_blocks.Tie as tie
 
-refused-by-requires : tie.Need-refused-by-requires
-refused-by-requires c κs = search needs
-
 returns : tie.Need-returns
 returns c = query-refused _ _ _ (c .before .refused-by .ensures) (c .if1 .taken)
 
@@ -20,4 +17,4 @@ returns-2 : tie.Need-returns-2
 returns-2 c = query-answered _ _ _ _ (c .before .before .refused-by .ensures) (c .before .if1 .left) (ap (λ (p : Settings). number (p .«max_pending_blocks»)) (c .get-settings .ensures))
 
 pub max-pending-blocks-spec : {M : Type 1} → statement M
-max-pending-blocks-spec = tie.close (tie.spec refused-by-requires returns get-settings-requires returns-2)
+max-pending-blocks-spec = tie.close (tie.spec (λ c κs. search needs) returns get-settings-requires returns-2)

@@ -7,9 +7,6 @@ use borrow.Author.Needs.{needs}
 use Rattle.window_queries.proofs.min_peers_for_fanout.Statement.{statement}
 use Rattle.window_queries.proofs.min_peers_for_fanout.Tie as tie
 
-refused-by-requires : tie.Need-refused-by-requires
-refused-by-requires c κs = search needs
-
 returns : tie.Need-returns
 returns c = query-refused _ _ _ (c .before .refused-by .ensures) (c .if1 .taken)
 
@@ -20,4 +17,4 @@ returns-2 : tie.Need-returns-2
 returns-2 c = query-answered _ _ _ _ (c .before .before .refused-by .ensures) (c .before .if1 .left) (ap (λ (p : Settings). number (p .«min_peers_for_fanout»)) (c .get-settings .ensures))
 
 pub min-peers-for-fanout-spec : {M : Type 1} → statement M
-min-peers-for-fanout-spec = tie.close (tie.spec refused-by-requires returns get-settings-requires returns-2)
+min-peers-for-fanout-spec = tie.close (tie.spec (λ c κs. search needs) returns get-settings-requires returns-2)

@@ -9,9 +9,6 @@ use borrow.Author.Needs.{needs}
 use Rattle.window_queries.proofs.owner_queue_start.Statement.{statement}
 use Rattle.window_queries.proofs.owner_queue_start.Tie as tie
 
-refused-by-requires : tie.Need-refused-by-requires
-refused-by-requires c κs = search needs
-
 returns : tie.Need-returns
 returns c = query-refused _ _ _ (c .before .refused-by .ensures) (c .if1 .taken)
 
@@ -20,11 +17,8 @@ start-of-requires c κs =
     let g = admitted _ _ 0 _ (c .before .refused-by .ensures) (c .if1 .left) in
     (g .whole .long, a-seat _ (g .passes .peers))
 
-perhaps-stored-requires : tie.Need-perhaps-stored-requires
-perhaps-stored-requires c κs = search needs
-
 returns-2 : tie.Need-returns-2
 returns-2 c = query-answered _ _ _ _ (c .before .before .before .refused-by .ensures) (c .before .before .if1 .left) (c .perhaps-stored .ensures ∙ ap (λ (t : ℕ). says 0 (perhaps t)) (c .before .start-of .ensures))
 
 pub owner-queue-start-spec : {M : Type 1} → statement M
-owner-queue-start-spec = tie.close (tie.spec refused-by-requires returns start-of-requires perhaps-stored-requires returns-2)
+owner-queue-start-spec = tie.close (tie.spec (λ c κs. search needs) returns start-of-requires (λ c κs. search needs) returns-2)

@@ -7,9 +7,6 @@ use borrow.Author.Needs.{needs}
 use Rattle.window_queries.proofs.peer_has_expired_pending.Statement.{statement}
 use Rattle.window_queries.proofs.peer_has_expired_pending.Tie as tie
 
-refused-by-at-requires : tie.Need-refused-by-at-requires
-refused-by-at-requires c κs = search needs
-
 returns : tie.Need-returns
 returns c = query-refused _ _ _ (c .before .refused-by-at .ensures) (c .if1 .taken)
 
@@ -28,4 +25,4 @@ unfolding read-clock
 returns-3 c = query-answered _ _ _ _ (c .before .before .before .refused-by-at .ensures) (c .before .before .if1 .left) (ap truth (sym (c .if2 .left) ∙ c .before .peer-has-expired-pending .ensures))
 
 pub peer-has-expired-pending-spec : {M : Type 1} → statement M
-peer-has-expired-pending-spec = tie.close (tie.spec refused-by-at-requires returns peer-has-expired-pending-requires returns-2 returns-3)
+peer-has-expired-pending-spec = tie.close (tie.spec (λ c κs. search needs) returns peer-has-expired-pending-requires returns-2 returns-3)

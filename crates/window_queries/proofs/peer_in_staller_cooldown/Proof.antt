@@ -8,9 +8,6 @@ use borrow.Author.Needs.{needs}
 use Rattle.window_queries.proofs.peer_in_staller_cooldown.Statement.{statement}
 use Rattle.window_queries.proofs.peer_in_staller_cooldown.Tie as tie
 
-refused-by-at-requires : tie.Need-refused-by-at-requires
-refused-by-at-requires c κs = search needs
-
 returns : tie.Need-returns
 returns c = query-refused _ _ _ (c .before .refused-by-at .ensures) (c .if1 .taken)
 
@@ -29,4 +26,4 @@ unfolding read-clock key-of
 returns-3 c = query-answered _ _ _ _ (c .before .before .before .refused-by-at .ensures) (c .before .before .if1 .left) (ap truth (sym (c .if2 .left) ∙ c .before .in-cooldown .ensures))
 
 pub peer-in-staller-cooldown-spec : {M : Type 1} → statement M
-peer-in-staller-cooldown-spec = tie.close (tie.spec refused-by-at-requires returns in-cooldown-requires returns-2 returns-3)
+peer-in-staller-cooldown-spec = tie.close (tie.spec (λ c κs. search needs) returns in-cooldown-requires returns-2 returns-3)

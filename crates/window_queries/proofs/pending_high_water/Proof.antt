@@ -5,9 +5,6 @@ use borrow.Author.Needs.{needs}
 use Rattle.window_queries.proofs.pending_high_water.Statement.{statement}
 use Rattle.window_queries.proofs.pending_high_water.Tie as tie
 
-refused-by-requires : tie.Need-refused-by-requires
-refused-by-requires c κs = search needs
-
 returns : tie.Need-returns
 returns c = query-refused _ _ _ (c .before .refused-by .ensures) (c .if1 .taken)
 
@@ -21,4 +18,4 @@ returns-2 : tie.Need-returns-2
 returns-2 c = query-answered _ _ _ _ (c .before .before .before .refused-by .ensures) (c .before .before .if1 .left) (λ i. pair (c .before .get-high-blocks .ensures i) (c .get-high-bytes .ensures i))
 
 pub pending-high-water-spec : {M : Type 1} → statement M
-pending-high-water-spec = tie.close (tie.spec refused-by-requires returns get-high-blocks-requires get-high-bytes-requires returns-2)
+pending-high-water-spec = tie.close (tie.spec (λ c κs. search needs) returns get-high-blocks-requires get-high-bytes-requires returns-2)

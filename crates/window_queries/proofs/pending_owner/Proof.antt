@@ -7,9 +7,6 @@ use borrow.Author.Needs.{needs}
 use Rattle.window_queries.proofs.pending_owner.Statement.{statement}
 use Rattle.window_queries.proofs.pending_owner.Tie as tie
 
-refused-by-requires : tie.Need-refused-by-requires
-refused-by-requires c κs = search needs
-
 returns : tie.Need-returns
 returns c = query-refused _ _ _ (c .before .refused-by .ensures) (c .if1 .taken)
 
@@ -18,11 +15,8 @@ pending-owner-requires c κs =
     let g = admitted _ _ 0 _ (c .before .refused-by .ensures) (c .if1 .left) in
     (g .whole, sound-rises _ _ (g .sound))
 
-perhaps-seat-requires : tie.Need-perhaps-seat-requires
-perhaps-seat-requires c κs = search needs
-
 returns-2 : tie.Need-returns-2
 returns-2 c = query-answered _ _ _ _ (c .before .before .before .refused-by .ensures) (c .before .before .if1 .left) (c .perhaps-seat .ensures ∙ ap (says 0) (c .before .pending-owner .ensures))
 
 pub pending-owner-spec : {M : Type 1} → statement M
-pending-owner-spec = tie.close (tie.spec refused-by-requires returns pending-owner-requires perhaps-seat-requires returns-2)
+pending-owner-spec = tie.close (tie.spec (λ c κs. search needs) returns pending-owner-requires (λ c κs. search needs) returns-2)

@@ -3,12 +3,6 @@ use borrow.Author.Needs.{needs}
 use Rattle.window_queries.proofs.perhaps_batch.Statement.{statement}
 use Rattle.window_queries.proofs.perhaps_batch.Tie as tie
 
-enum-told : tie.Need-enum-told
-enum-told c = search needs
-
-enum-known-b : tie.Need-enum-known-b
-enum-known-b c = search needs
-
 returns : tie.Need-returns
 returns c = rw (c .enum-told .given .1)
 
@@ -16,4 +10,4 @@ returns-2 : tie.Need-returns-2
 returns-2 c = rw (c .before .b .given .1)
 
 pub perhaps-batch-spec : {M : Type 1} → statement M
-perhaps-batch-spec = tie.close (tie.spec enum-told enum-known-b returns returns-2)
+perhaps-batch-spec = tie.close (tie.spec (λ c. search needs) (λ c. search needs) returns returns-2)

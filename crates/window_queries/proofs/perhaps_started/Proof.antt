@@ -3,12 +3,6 @@ use borrow.Author.Needs.{needs}
 use Rattle.window_queries.proofs.perhaps_started.Statement.{statement}
 use Rattle.window_queries.proofs.perhaps_started.Tie as tie
 
-enum-told : tie.Need-enum-told
-enum-told c = search needs
-
-enum-known-p : tie.Need-enum-known-p
-enum-known-p c = search needs
-
 returns : tie.Need-returns
 returns c = rw (c .enum-told .given .1)
 
@@ -16,4 +10,4 @@ returns-2 : tie.Need-returns-2
 returns-2 c = rw (c .before .p .given .1)
 
 pub perhaps-started-spec : {M : Type 1} → statement M
-perhaps-started-spec = tie.close (tie.spec enum-told enum-known-p returns returns-2)
+perhaps-started-spec = tie.close (tie.spec (λ c. search needs) (λ c. search needs) returns returns-2)

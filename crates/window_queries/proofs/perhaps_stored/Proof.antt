@@ -7,11 +7,8 @@ use Rattle.window_queries.proofs.perhaps_stored.Tie as tie
 returns : tie.Need-returns
 returns c = rw (c .if1 .taken)
 
-sub-t3 : tie.Need-sub-t3
-sub-t3 c = search needs
-
 returns-2 : tie.Need-returns-2
 returns-2 c = stored _ (c .if1 .left)
 
 pub perhaps-stored-spec : {M : Type 1} → statement M
-perhaps-stored-spec = tie.close (tie.spec returns sub-t3 returns-2)
+perhaps-stored-spec = tie.close (tie.spec returns (λ c. search needs) returns-2)

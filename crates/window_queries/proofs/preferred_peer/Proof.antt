@@ -8,20 +8,14 @@ use borrow.Author.Needs.{needs}
 use Rattle.window_queries.proofs.preferred_peer.Statement.{statement}
 use Rattle.window_queries.proofs.preferred_peer.Tie as tie
 
-refused-by-requires : tie.Need-refused-by-requires
-refused-by-requires c κs = search needs
-
 returns : tie.Need-returns
 returns c = query-refused _ _ _ (c .before .refused-by .ensures) (c .if1 .taken)
 
 get-preferred-requires : tie.Need-get-preferred-requires
 get-preferred-requires c κs = admitted _ _ 0 _ (c .before .refused-by .ensures) (c .if1 .left) .whole .long
 
-perhaps-seat-requires : tie.Need-perhaps-seat-requires
-perhaps-seat-requires c κs = search needs
-
 returns-2 : tie.Need-returns-2
 returns-2 c = query-answered _ _ _ _ (c .before .before .before .refused-by .ensures) (c .before .before .if1 .left) (c .perhaps-seat .ensures ∙ ap (λ (s : Source). says 0 (source-values s)) (c .before .get-preferred .ensures))
 
 pub preferred-peer-spec : {M : Type 1} → statement M
-preferred-peer-spec = tie.close (tie.spec refused-by-requires returns get-preferred-requires perhaps-seat-requires returns-2)
+preferred-peer-spec = tie.close (tie.spec (λ c κs. search needs) returns get-preferred-requires (λ c κs. search needs) returns-2)

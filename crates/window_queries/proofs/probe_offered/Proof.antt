@@ -6,9 +6,6 @@ use borrow.Author.Needs.{needs}
 use Rattle.window_queries.proofs.probe_offered.Statement.{statement}
 use Rattle.window_queries.proofs.probe_offered.Tie as tie
 
-refused-by-requires : tie.Need-refused-by-requires
-refused-by-requires c κs = search needs
-
 returns : tie.Need-returns
 returns c = query-refused _ _ _ (c .before .refused-by .ensures) (c .if1 .taken)
 
@@ -24,4 +21,4 @@ returns-3 : tie.Need-returns-3
 returns-3 c = query-answered _ _ _ _ (c .before .before .before .refused-by .ensures) (c .before .before .if1 .left) (ap truth (sym (c .if2 .left) ∙ c .before .probe-offered .ensures))
 
 pub probe-offered-spec : {M : Type 1} → statement M
-probe-offered-spec = tie.close (tie.spec refused-by-requires returns probe-offered-requires returns-2 returns-3)
+probe-offered-spec = tie.close (tie.spec (λ c κs. search needs) returns probe-offered-requires returns-2 returns-3)

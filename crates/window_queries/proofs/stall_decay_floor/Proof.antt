@@ -6,9 +6,6 @@ use borrow.Author.Needs.{needs}
 use Rattle.window_queries.proofs.stall_decay_floor.Statement.{statement}
 use Rattle.window_queries.proofs.stall_decay_floor.Tie as tie
 
-refused-by-requires : tie.Need-refused-by-requires
-refused-by-requires c κs = search needs
-
 returns : tie.Need-returns
 returns c = query-refused _ _ _ (c .before .refused-by .ensures) (c .if1 .taken)
 
@@ -21,4 +18,4 @@ returns-2 : tie.Need-returns-2
 returns-2 c = query-answered _ _ _ _ (c .before .before .refused-by .ensures) (c .before .if1 .left) (ap number (c .stall-decay-floor .ensures))
 
 pub stall-decay-floor-spec : {M : Type 1} → statement M
-stall-decay-floor-spec = tie.close (tie.spec refused-by-requires returns stall-decay-floor-requires returns-2)
+stall-decay-floor-spec = tie.close (tie.spec (λ c κs. search needs) returns stall-decay-floor-requires returns-2)

@@ -7,9 +7,6 @@ use borrow.Author.Needs.{needs}
 use Rattle.window_queries.proofs.stall_timeout.Statement.{statement}
 use Rattle.window_queries.proofs.stall_timeout.Tie as tie
 
-refused-by-requires : tie.Need-refused-by-requires
-refused-by-requires c κs = search needs
-
 returns : tie.Need-returns
 returns c = query-refused _ _ _ (c .before .refused-by .ensures) (c .if1 .taken)
 
@@ -20,4 +17,4 @@ returns-2 : tie.Need-returns-2
 returns-2 c = query-answered _ _ _ _ (c .before .before .refused-by .ensures) (c .before .if1 .left) (ap (λ (p : Pace). number (p .wait)) (c .get-pace .ensures))
 
 pub stall-timeout-spec : {M : Type 1} → statement M
-stall-timeout-spec = tie.close (tie.spec refused-by-requires returns get-pace-requires returns-2)
+stall-timeout-spec = tie.close (tie.spec (λ c κs. search needs) returns get-pace-requires returns-2)
