@@ -18,6 +18,8 @@ pub fn sequences(window: &mut dyn Window) -> Vec<Sequence> {
         plan_at_the_top(),
         staged_at_front(),
         passed_over_at_the_wait(),
+        won_while_observed(),
+        fanout_over_a_probe(),
     ];
     all.into_iter().map(run).collect()
 }
@@ -69,6 +71,29 @@ fn passed_over_at_the_wait() -> Vec<Call> {
     let body = Call::CreditDeliveryFrom { clock: 7, hash: hash(99), source: 3, pending_height: None };
     let sweep = |age: u64| Call::ExpirePending { clock: 6 + age };
     vec![open(8), request(&[100, 101]), body, sweep(1_999_999_999), sweep(2_000_000_000)]
+}
+
+/// The owner wins the race while its entry at another height, which has timed out (after 600 s), is observed: the bodies came first, from nobody.
+fn won_while_observed() -> Vec<Call> {
+    let late = 600_000_000_009;
+    let arrival = |index| Call::MarkReceivedFrom { clock: 9, hash: hash(index), bytes: 262_144, source: None };
+    let look = Call::ObserveBlocked {
+        clock: late,
+        next_apply_height: None,
+        frontier_hash: None,
+        busy: false,
+        staged_count: 0,
+        staged_height: None,
+    };
+    let credit = |index| Call::CreditDeliveryFrom { clock: late, hash: hash(index), source: 3, pending_height: None };
+    let race = [open(8), request(&[100, 101, 102, 103, 200]), confirm(3)].into_iter().chain((0..4).map(arrival));
+    race.chain([look]).chain((0..4).map(credit)).collect()
+}
+
+/// Enough peers for fan-out while the probe is young, and when its age reaches the initial stall wait.
+fn fanout_over_a_probe() -> Vec<Call> {
+    let fanout = |age: u64| Call::SetFanoutEligiblePeers { clock: 8 + age, count: 2 };
+    vec![open(2), request(&[100, 101, 102, 103]), confirm(3), fanout(1_999_999_999), Call::FanoutActive, fanout(2_000_000_000)]
 }
 
 fn open(min_peers_for_fanout: u64) -> Call {
