@@ -6,7 +6,7 @@ ghost use lib.ListN.{length, take, set};
 ghost use Rattle.model.specs.Numbers.{max-estimate, max-seat};
 ghost use Rattle.model.specs.Lists.{pad};
 ghost use Rattle.model.specs.Calls.{asks-in, mark-requested};
-ghost use Rattle.model.specs.Layout.{decode, window-of, field, blank};
+ghost use Rattle.model.specs.Layout.{decode, window-of, blank};
 ghost use Rattle.laws.specs.Kept.{Requestable};
 ghost use Rattle.laws.specs.Sound.{Sound};
 ghost use Rattle.laws.specs.Tables.{with-entries};
@@ -44,16 +44,6 @@ fn row_entry(
     requests::new_entry(hash, owner, clock, height, mean)
 }
 
-// The word of an entry that is in the column k.
-fn field_of(e: Entry, k: usize) -> u64
-    requires { ⌜ k < 8 ⌝ }
-    ensures { λ r. ⌜ r ≡ field k e ⌝ }
-{
-    let h = e.hash;
-    let l = [h.a, h.b, h.c, h.d, e.owner, e.time, e.height, e.estimate];
-    l[k]
-}
-
 // An entry written at a place.
 fn put_row(words: &mut [u64], at: usize, e: Entry)
     requires { ⌜ (length (now words) ≡ 4096) × (at < 256) ⌝ }
@@ -63,7 +53,7 @@ fn put_row(words: &mut [u64], at: usize, e: Entry)
     while k < sizes::COLUMNS {
         let a = sizes::PLACES * k;
         let z = a + sizes::PLACES;
-        let v = field_of(e, k);
+        let v = records::field_of(e, k);
         column::store(&mut words[a..z], at, v);
         k += 1;
     }

@@ -1,11 +1,11 @@
 -- `request_many::put_row` meets its contract: at the loop's head the columns below k are done. Assumes nothing.
-use mathlib.Core.Path.{_≡_, ap, _∙_, subst}
+use mathlib.Core.Path.{ap, _∙_}
 use Prim.Native.Nat.{ℕ, _-_, _≤_}
 use native.Mathlib.Omega.{arith}
 use lib.ListN.{set}
 use borrow.Author.Needs.{needs}
 use Rattle.laws.specs.Rows.{mid, Upto, upto-start, upto-call}
-use Rattle.records.proofs.Live.{mid-long}
+use Rattle.records.proofs.Live.{mid-long, all-columns}
 use Rattle.request_many.specs.Fill.{set-col, decode-set}
 use Rattle.request_many.proofs.put_row.Statement.{statement}
 use Rattle.request_many.proofs.put_row.Tie as tie
@@ -73,11 +73,7 @@ returns : tie.Need-returns Inv-loop μ-loop
 returns c =
     let at-loop = c .before in
     let at-start = at-loop .before .before in
-    let at = at-start .args .at in
-    let e = at-start .args .e in
-    let eight : at-loop .loop .k ≡ 8 = omega arith in
-    decode-set at e (at-start .args .words .now) (at-loop .loop .words) (at-start .pre .0)
-    (subst (λ (k : ℕ). Upto (set-col at e) k (at-start .args .words .now) (at-loop .loop .words)) eight (at-loop .loop .inv .1))
+    decode-set (at-start .args .at) (at-start .args .e) (at-start .args .words .now) (at-loop .loop .words) (at-start .pre .0) (all-columns (at-loop .loop .inv) (omega arith))
 
 pub put-row-spec : {M : Type 1} → statement M
 put-row-spec =
