@@ -20,6 +20,7 @@ pub fn sequences(window: &mut dyn Window) -> Vec<Sequence> {
         passed_over_at_the_wait(),
         won_while_observed(),
         fanout_over_a_probe(),
+        third_front(),
     ];
     all.into_iter().map(run).collect()
 }
@@ -94,6 +95,21 @@ fn won_while_observed() -> Vec<Call> {
 fn fanout_over_a_probe() -> Vec<Call> {
     let fanout = |age: u64| Call::SetFanoutEligiblePeers { clock: 8 + age, count: 2 };
     vec![open(2), request(&[100, 101, 102, 103]), confirm(3), fanout(1_999_999_999), Call::FanoutActive, fanout(2_000_000_000)]
+}
+
+/// Two fronts were hedged, each won by its owner, who has given no front: for a third there is no wait.
+fn third_front() -> Vec<Call> {
+    let look = |height| Call::ObserveBlocked {
+        clock: 8,
+        next_apply_height: Some(height),
+        frontier_hash: None,
+        busy: false,
+        staged_count: 0,
+        staged_height: None,
+    };
+    let hedge = |index| Call::ConfirmColdFrontHedge { owner: 3, alternate: 8, hash: hash(index) };
+    let won = |index| Call::CreditDeliveryFrom { clock: 8, hash: hash(index), source: 3, pending_height: None };
+    vec![open(8), request(&[100, 101, 102]), look(100), hedge(0), won(0), look(101), hedge(1), won(1), look(102)]
 }
 
 fn open(min_peers_for_fanout: u64) -> Call {
