@@ -43,6 +43,20 @@ skip s l r a m k n h e q =
     ∙ append-assoc a (take k l) (s ++ drop (k + length s) l)
     ∙ ap (λ (x : List ℕ). a ++ x) q
 
+-- segments one after the other, and then the rest
+abbrev row : List (List ℕ) → List ℕ → List ℕ
+row [] l = l
+row (a ∷ gs) l = a ++ row gs l
+
+abbrev lengths : List (List ℕ) → ℕ
+lengths [] = 0
+lengths (a ∷ gs) = length a + lengths gs
+
+-- a segment as long in the place of the one that follows some segments: one law for every state of the head
+after : (gs : List (List ℕ)) (n : ℕ) (s t l : List ℕ) → lengths gs ≡ n → length s ≡ length t → replaced n s (row gs (t ++ l)) ≡ row gs (s ++ l)
+after [] n s t l e q = ap (λ (k : ℕ). replaced k s (t ++ l)) (sym e) ∙ here s t l q
+after (a ∷ gs) n s t l e q = skip s (row gs (t ++ l)) (row gs (s ++ l)) a (length a) (lengths gs) n refl e (after gs (lengths gs) s t l refl q)
+
 -- ---- the head
 
 -- the words up to 27
@@ -88,86 +102,86 @@ module _ (w : Window) where
   unfolding with-words with-head replaced table head-words counts-words small-words settings-words
   attempted-in s = refl
 
-  -- past the first 27 words
-  past : (k n : ℕ) (s l r : List ℕ) → 27 + k ≡ n → replaced k s l ≡ r → replaced n s (first w ++ l) ≡ first w ++ r
+  first-long : length (first w) ≡ 27
   unfolding counts-words settings-words small-words
-  past k n s l r e q = skip s l r (first w) 27 k n refl e q
+  first-long = refl
+
+  -- the segments before each state
+  abbrev to-stuck : List (List ℕ)
+  to-stuck = first w ∷ stall-words (w .watch .stall) ∷ []
+
+  abbrev to-cold : List (List ℕ)
+  to-cold = first w ∷ stall-words (w .watch .stall) ∷ stuck-words (w .watch .stuck) ∷ []
+
+  abbrev to-hedged : List (List ℕ)
+  to-hedged = first w ∷ stall-words (w .watch .stall) ∷ stuck-words (w .watch .stuck) ∷ cold-words (w .races .cold) ∷ []
+
+  -- 46: the words up to the hedged fronts
+  to-hedged-long : lengths to-hedged ≡ 46
+  to-hedged-long = omega (arith, first-long, length-stall (w .watch .stall), length-stuck (w .watch .stuck), length-cold (w .races .cold))
 
   pub stall-in : (x : Stall) → with-words 27 (stall-words x) (table w) ≡ table (with-stall x w)
-  unfolding with-words with-head replaced table head-words counts-words small-words settings-words
+  unfolding with-words with-head table head-words counts-words small-words settings-words
   stall-in x =
-      let s = stall-words x in
-      ap (λ (h : List ℕ). with-head h (table w)) (past 0 27 s _ _ refl (here s (stall-words (w .watch .stall)) _ (length-stall x ∙ sym (length-stall (w .watch .stall)))))
-
-  -- past the stall episode
-  past-stall : (k n : ℕ) (s l r : List ℕ) → 33 + k ≡ n → replaced k s l ≡ r → replaced n s (first w ++ (stall-words (w .watch .stall) ++ l)) ≡ first w ++ (stall-words (w .watch .stall) ++ r)
-  past-stall k n s l r e q = past (6 + k) n s _ _ (omega arith) (skip s l r (stall-words (w .watch .stall)) 6 k (6 + k) (length-stall (w .watch .stall)) refl q)
+      ap (λ (h : List ℕ). with-head h (table w)) (after (first w ∷ []) 27 (stall-words x) (stall-words (w .watch .stall)) _ (omega (arith, first-long)) (length-stall x ∙ sym (length-stall (w .watch .stall))))
 
   pub stuck-in : (x : Stuck) → with-words 33 (stuck-words x) (table w) ≡ table (with-stuck x w)
-  unfolding with-words with-head replaced table head-words counts-words small-words settings-words
+  unfolding with-words with-head table head-words counts-words small-words settings-words
   stuck-in x =
-      let s = stuck-words x in
-      ap (λ (h : List ℕ). with-head h (table w)) (past-stall 0 33 s _ _ refl (here s (stuck-words (w .watch .stuck)) _ (length-stuck x ∙ sym (length-stuck (w .watch .stuck)))))
-
-  past-stuck : (k n : ℕ) (s l r : List ℕ) → 39 + k ≡ n → replaced k s l ≡ r
-      → replaced n s (first w ++ (stall-words (w .watch .stall) ++ (stuck-words (w .watch .stuck) ++ l))) ≡ first w ++ (stall-words (w .watch .stall) ++ (stuck-words (w .watch .stuck) ++ r))
-  past-stuck k n s l r e q = past-stall (6 + k) n s _ _ (omega arith) (skip s l r (stuck-words (w .watch .stuck)) 6 k (6 + k) (length-stuck (w .watch .stuck)) refl q)
+      ap (λ (h : List ℕ). with-head h (table w)) (after to-stuck 33 (stuck-words x) (stuck-words (w .watch .stuck)) _ (omega (arith, first-long, length-stall (w .watch .stall))) (length-stuck x ∙ sym (length-stuck (w .watch .stuck))))
 
   pub cold-in : (x : ColdFront) → with-words 39 (cold-words x) (table w) ≡ table (with-cold x w)
-  unfolding with-words with-head replaced table head-words counts-words small-words settings-words
+  unfolding with-words with-head table head-words counts-words small-words settings-words
   cold-in x =
-      let s = cold-words x in
-      ap (λ (h : List ℕ). with-head h (table w)) (past-stuck 0 39 s _ _ refl (here s (cold-words (w .races .cold)) _ (length-cold x ∙ sym (length-cold (w .races .cold)))))
-
-  past-cold : (k n : ℕ) (s l r : List ℕ) → 46 + k ≡ n → replaced k s l ≡ r
-      → replaced n s (first w ++ (stall-words (w .watch .stall) ++ (stuck-words (w .watch .stuck) ++ (cold-words (w .races .cold) ++ l))))
-      ≡ first w ++ (stall-words (w .watch .stall) ++ (stuck-words (w .watch .stuck) ++ (cold-words (w .races .cold) ++ r)))
-  past-cold k n s l r e q = past-stuck (7 + k) n s _ _ (omega arith) (skip s l r (cold-words (w .races .cold)) 7 k (7 + k) (length-cold (w .races .cold)) refl q)
+      ap (λ (h : List ℕ). with-head h (table w)) (after to-cold 39 (cold-words x) (cold-words (w .races .cold)) _ (omega (arith, first-long, length-stall (w .watch .stall), length-stuck (w .watch .stuck))) (length-cold x ∙ sym (length-cold (w .races .cold))))
 
   module _ (sh : Shaped w) where
-    pub hedged-in : (hs : List Hash) → length hs ≤ 2 → with-words 46 (hedged-words hs) (table w) ≡ table (with-hedged hs w)
-    unfolding with-words with-head replaced table head-words counts-words small-words settings-words
-    hedged-in hs b =
-        let s = hedged-words hs in
-        ap (λ (h : List ℕ). with-head h (table w)) (past-cold 0 46 s _ _ refl (here s (hedged-words (w .races .hedged)) _ (length-hedged hs b ∙ sym (length-hedged (w .races .hedged) (sh .hedged)))))
+    abbrev to-observation : List (List ℕ)
+    to-observation = first w ∷ stall-words (w .watch .stall) ∷ stuck-words (w .watch .stuck) ∷ cold-words (w .races .cold) ∷ hedged-words (w .races .hedged) ∷ []
 
-    past-hedged : (k n : ℕ) (s l r : List ℕ) → 55 + k ≡ n → replaced k s l ≡ r
-        → replaced n s (first w ++ (stall-words (w .watch .stall) ++ (stuck-words (w .watch .stuck) ++ (cold-words (w .races .cold) ++ (hedged-words (w .races .hedged) ++ l)))))
-        ≡ first w ++ (stall-words (w .watch .stall) ++ (stuck-words (w .watch .stuck) ++ (cold-words (w .races .cold) ++ (hedged-words (w .races .hedged) ++ r))))
-    past-hedged k n s l r e q = past-cold (9 + k) n s _ _ (omega arith) (skip s l r (hedged-words (w .races .hedged)) 9 k (9 + k) (length-hedged (w .races .hedged) (sh .hedged)) refl q)
+    abbrev to-probe : List (List ℕ)
+    to-probe = first w ∷ stall-words (w .watch .stall) ∷ stuck-words (w .watch .stuck) ∷ cold-words (w .races .cold) ∷ hedged-words (w .races .hedged) ∷ observation-words (w .watch .observation) ∷ []
+
+    abbrev to-planned : List ℕ → List (List ℕ)
+    to-planned p = first w ∷ stall-words (w .watch .stall) ∷ stuck-words (w .watch .stuck) ∷ cold-words (w .races .cold) ∷ hedged-words (w .races .hedged) ∷ observation-words (w .watch .observation) ∷ p ∷ []
+
+    hedged-long : length (hedged-words (w .races .hedged)) ≡ 9
+    hedged-long = length-hedged (w .races .hedged) (sh .hedged)
+
+    observation-long : length (observation-words (w .watch .observation)) ≡ 6
+    observation-long = length-observation (w .watch .observation)
+
+    pub hedged-in : (hs : List Hash) → length hs ≤ 2 → with-words 46 (hedged-words hs) (table w) ≡ table (with-hedged hs w)
+    unfolding with-words with-head table head-words counts-words small-words settings-words
+    hedged-in hs b =
+        ap (λ (h : List ℕ). with-head h (table w)) (after to-hedged 46 (hedged-words hs) (hedged-words (w .races .hedged)) _ to-hedged-long (length-hedged hs b ∙ sym hedged-long))
 
     pub observation-in : (x : Observation) → with-words 55 (observation-words x) (table w) ≡ table (with-observation x w)
-    unfolding with-words with-head replaced table head-words counts-words small-words settings-words
+    unfolding with-words with-head table head-words counts-words small-words settings-words
     observation-in x =
-        let s = observation-words x in
-        ap (λ (h : List ℕ). with-head h (table w)) (past-hedged 0 55 s _ _ refl (here s (observation-words (w .watch .observation)) _ (length-observation x ∙ sym (length-observation (w .watch .observation)))))
+        ap (λ (h : List ℕ). with-head h (table w)) (after to-observation 55 (observation-words x) (observation-words (w .watch .observation)) _ (omega (arith, to-hedged-long, hedged-long)) (length-observation x ∙ sym observation-long))
 
-    past-observation : (k n : ℕ) (s l r : List ℕ) → 61 + k ≡ n → replaced k s l ≡ r
-        → replaced n s (first w ++ (stall-words (w .watch .stall) ++ (stuck-words (w .watch .stuck) ++ (cold-words (w .races .cold) ++ (hedged-words (w .races .hedged) ++ (observation-words (w .watch .observation) ++ l))))))
-        ≡ first w ++ (stall-words (w .watch .stall) ++ (stuck-words (w .watch .stuck) ++ (cold-words (w .races .cold) ++ (hedged-words (w .races .hedged) ++ (observation-words (w .watch .observation) ++ r)))))
-    past-observation k n s l r e q = past-hedged (6 + k) n s _ _ (omega arith) (skip s l r (observation-words (w .watch .observation)) 6 k (6 + k) (length-observation (w .watch .observation)) refl q)
+    -- the probe's own words in the place of those that are there
+    probe-put : (x : Probe) (n : ℕ) → replaced 61 (probe-words x n) (head-words w) ≡ row to-probe (probe-words x n ++ (planned-words (w .races .planned) ++ replicate 415 0))
+    unfolding head-words counts-words small-words settings-words
+    probe-put x n =
+        let m = length (w .races .planned) in
+        after to-probe 61 (probe-words x n) (probe-words (w .races .probe) m) _ (omega (arith, to-hedged-long, hedged-long, observation-long)) (length-probe x n ∙ sym (length-probe (w .races .probe) m))
 
     -- the probe's own words, its hashes as they were
     pub probe-in : (x : Probe) → with-words 61 (probe-words x (length (w .races .planned))) (table w) ≡ table (with-probe x (w .races .planned) (w .races .racers) w)
-    unfolding with-words with-head replaced table head-words counts-words small-words settings-words
-    probe-in x =
-        let n = length (w .races .planned) in
-        let s = probe-words x n in
-        ap (λ (h : List ℕ). with-head h (table w)) (past-observation 0 61 s _ _ refl (here s (probe-words (w .races .probe) n) _ (length-probe x n ∙ sym (length-probe (w .races .probe) n))))
+    unfolding with-words with-head table head-words counts-words small-words settings-words
+    probe-in x = ap (λ (h : List ℕ). with-head h (table w)) (probe-put x (length (w .races .planned)))
 
     -- the probe with its hashes, the racers as they were
     pub plan-in : (x : Probe) (hs : List Hash) → length hs ≤ 8
         → with-words 65 (planned-words hs) (with-words 61 (probe-words x (length hs)) (table w)) ≡ table (with-probe x hs (w .races .racers) w)
-    unfolding with-words with-head replaced table head-words counts-words small-words settings-words
+    unfolding with-words with-head table head-words counts-words small-words settings-words
     plan-in x hs b =
-        let n = length hs in
-        let s = probe-words x n in
-        let m = length (w .races .planned) in
-        let one : replaced 61 s (head-words w) ≡ _ = past-observation 0 61 s _ _ refl (here s (probe-words (w .races .probe) m) _ (length-probe x n ∙ sym (length-probe (w .races .probe) m))) in
-        let p = planned-words hs in
-        let two = past-observation 4 65 p _ _ refl (skip p _ _ (probe-words x n) 4 0 4 (length-probe x n) refl
-        (here p (planned-words (w .races .planned)) (replicate 415 0) (length-planned hs b ∙ sym (length-planned (w .races .planned) (sh .planned))))) in
-        ap (λ (h : List ℕ). with-head h (table w)) (ap (replaced 65 p) one ∙ two)
+        let p = probe-words x (length hs) in
+        let two = after (to-planned p) 65 (planned-words hs) (planned-words (w .races .planned)) (replicate 415 0) (omega (arith, to-hedged-long, hedged-long, observation-long, length-probe x (length hs)))
+        (length-planned hs b ∙ sym (length-planned (w .races .planned) (sh .planned))) in
+        ap (λ (h : List ℕ). with-head h (table w)) (ap (replaced 65 (planned-words hs)) (probe-put x (length hs)) ∙ two)
 
 -- ---- the tables
 

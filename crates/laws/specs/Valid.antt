@@ -206,13 +206,17 @@ pub record StallFacts (t : Table) : Type 0 where
   pub none : word 27 t ≡ 0 → zeros 27 6 t ≡ true
   pub sound : SoundStall (word 2 t) (stall-of (word 27 t) (word 28 t) (hash-at 29 t))
 
+-- a state with a first word that is there: since when, and a seat or a height
+there : (m a b c : ℕ) (z : Bool) → cond (is-0 (suc a)) z (every (leb (suc a) (suc c) ∷ leb b m ∷ [])) ≡ true → (b ≤ m) × (a ≤ c)
+there m a b c z q =
+    let bs = leb (suc a) (suc c) ∷ leb b m ∷ [] in
+    let q′ : every bs ≡ true = rw (ne-eqb (suc a) 0 (λ (x : suc a ≡ 0). omega arith)) at q in
+    (leb-true b m (hold bs q′ 1), omega (arith, leb-true (suc a) (suc c) (hold bs q′ 0)))
+
 -- by the first word
 stall-by : (a b c : ℕ) (h : Hash) (z : Bool) → cond (is-0 a) z (every (leb a (suc c) ∷ leb b max-seat ∷ [])) ≡ true → (a ≡ 0 → z ≡ true) × SoundStall c (stall-of a b h)
 stall-by zero b c h z q = (λ x. q, tt)
-stall-by (suc a) b c h z q =
-    let bs = leb (suc a) (suc c) ∷ leb b max-seat ∷ [] in
-    let q′ : every bs ≡ true = rw (ne-eqb (suc a) 0 (λ (x : suc a ≡ 0). omega arith)) at q in
-    (λ x. absurd (omega arith), (leb-true b max-seat (hold bs q′ 1), omega (arith, leb-true (suc a) (suc c) (hold bs q′ 0))))
+stall-by (suc a) b c h z q = (λ x. absurd (omega arith), there max-seat a b c z q)
 
 pub stall-facts : (t : Table) → stall-ok t ≡ true → StallFacts t
 unfolding stall-ok
@@ -224,10 +228,7 @@ pub record StuckFacts (t : Table) : Type 0 where
 
 stuck-by : (a b c : ℕ) (h : Hash) (z : Bool) → cond (is-0 a) z (every (leb a (suc c) ∷ leb b max-height ∷ [])) ≡ true → (a ≡ 0 → z ≡ true) × SoundStuck c (stuck-of a b h)
 stuck-by zero b c h z q = (λ x. q, tt)
-stuck-by (suc a) b c h z q =
-    let bs = leb (suc a) (suc c) ∷ leb b max-height ∷ [] in
-    let q′ : every bs ≡ true = rw (ne-eqb (suc a) 0 (λ (x : suc a ≡ 0). omega arith)) at q in
-    (λ x. absurd (omega arith), (leb-true b max-height (hold bs q′ 1), omega (arith, leb-true (suc a) (suc c) (hold bs q′ 0))))
+stuck-by (suc a) b c h z q = (λ x. absurd (omega arith), there max-height a b c z q)
 
 pub stuck-facts : (t : Table) → stuck-ok t ≡ true → StuckFacts t
 unfolding stuck-ok
