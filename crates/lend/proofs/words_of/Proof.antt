@@ -43,7 +43,7 @@ slice-aggregate-put-release : tie.Need-slice-aggregate-put-release Inv-loop μ-l
 slice-aggregate-put-release c = sym (c .before .before .before .before .loop .inv .1)
 
 put-release-requires : tie.Need-put-release-requires Inv-loop μ-loop
-put-release-requires c κs = (c .before .before .before .before .loop .inv .1, omega arith)
+put-release-requires c κs = omega (arith, c .before .before .before .before .loop .inv .1)
 
 add-i : tie.Need-add-i Inv-loop μ-loop
 add-i c = omega arith
