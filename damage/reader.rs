@@ -1,5 +1,5 @@
-// An independent reader: 01's list "Words count as a window when" and the layout, read into a structure from front to back, with maps and options and no
-// thought of speed. It says which of the conditions fails first, or what it read.
+// An independent reader: the list of SPECIFICATION 9.2, which words are a window, and the layout, read into a structure from front to back, with maps
+// and options and no thought of speed. It says which of the conditions fails first, or what it read.
 use std::collections::BTreeMap;
 
 type Hash = [u64; 4];

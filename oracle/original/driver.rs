@@ -189,7 +189,7 @@ impl Original {
         (0..=u8::MAX).filter(|seat| self.window.owner_download_expired(self.source(*seat), active, self.at(*clock))).collect()
     }
 
-    /// 01's report: what is no longer in the map, with its reason.
+    /// The report (SPECIFICATION 3.4): what is no longer in the map, with its reason.
     fn gone(&self, call: &Call, before: &State, expired: &[Seat]) -> Vec<Release> {
         let mut gone: Vec<Release> = before
             .pending
@@ -415,7 +415,7 @@ impl Original {
     }
 }
 
-/// Why an entry went, by 01's table.
+/// Why an entry went, by the table of SPECIFICATION 5.1.
 fn reason(call: &Call, entry: &Entry, before: &State, expired: &[Seat]) -> Reason {
     match call {
         Call::MarkReceivedFrom { hash, .. } if *hash == entry.hash => Reason::Delivered,

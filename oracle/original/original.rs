@@ -1,6 +1,6 @@
 //! The original window, built from its text with the listed substitutions, behind `calls::Window`.
 //!
-//! Two packages build this file: `ordered` (ordered maps, as 01 asks) and `own-maps` (hash maps).
+//! Two packages build this file: `ordered` (ordered maps, for runs that can be repeated) and `own-maps` (hash maps).
 
 #[path = "shims.rs"]
 mod shims;

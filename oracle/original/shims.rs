@@ -1,4 +1,4 @@
-//! Stand-ins for what the original imports: just enough to compile it, and to hand in what 01 says
+//! Stand-ins for what the original imports: just enough to compile it, and to hand in what
 //! is handed in. What only left-out functions use has no behaviour.
 #![allow(dead_code)]
 
@@ -21,12 +21,12 @@ pub mod bitcoin_rs_consensus {
 
         impl Network {
             pub fn target_spacing_seconds(self) -> u32 {
-                unreachable!("left out by 01")
+                unreachable!("left out (SPECIFICATION 1.7)")
             }
         }
 
         pub fn unix_time_secs() -> u64 {
-            unreachable!("left out by 01")
+            unreachable!("left out (SPECIFICATION 1.7)")
         }
     }
 }
@@ -95,15 +95,15 @@ pub mod bitcoin_rs_execution {
             }
 
             pub fn lookup(&self, _hash: Hash256) -> Option<NodeId> {
-                unreachable!("left out by 01")
+                unreachable!("left out (SPECIFICATION 1.7)")
             }
 
             pub fn node(&self, _id: NodeId) -> Result<Node, ()> {
-                unreachable!("left out by 01")
+                unreachable!("left out (SPECIFICATION 1.7)")
             }
 
             pub fn node_at_height_from(&self, _tip: NodeId, _height: u32) -> Option<NodeId> {
-                unreachable!("left out by 01")
+                unreachable!("left out (SPECIFICATION 1.7)")
             }
         }
 
@@ -117,7 +117,7 @@ pub mod bitcoin_rs_execution {
 
         impl InitialBlockDownload {
             pub fn is_active(&self, _now: u64, _network: Network) -> bool {
-                unreachable!("left out by 01")
+                unreachable!("left out (SPECIFICATION 1.7)")
             }
         }
     }
@@ -152,7 +152,7 @@ pub mod p2p {
         }
 
         pub fn received_bytes(&self) -> usize {
-            unreachable!("left out by 01")
+            unreachable!("left out (SPECIFICATION 1.7)")
         }
 
         pub fn staged_hashes(&self) -> impl Iterator<Item = Hash256> + '_ {
@@ -168,7 +168,7 @@ pub mod p2p {
         }
 
         pub fn discard(&mut self, _hash: &Hash256) {
-            unreachable!("left out by 01")
+            unreachable!("left out (SPECIFICATION 1.7)")
         }
     }
 }
@@ -195,7 +195,7 @@ pub mod hashbrown {
     pub use std::collections::{HashMap, HashSet};
 }
 
-/// 01: "The oracle uses ordered maps".
+/// Ordered maps: runs can be repeated (docs/DIFFERENCES.md).
 #[cfg(not(feature = "own-maps"))]
 pub mod hashbrown {
     use std::collections::{BTreeMap, BTreeSet};

@@ -42,7 +42,7 @@ pub const SUBSTITUTIONS: &[Substitution] = &[
     Substitution {
         file: WINDOW,
         change: Change::Replace { times: 1, from: "crate::p2p", to: "super::shims::p2p" },
-        reason: "the stager lives in the node's crate, which is not here; ours hands in what 01 says is handed in",
+        reason: "the stager lives in the node's crate, which is not here; ours hands in what SPECIFICATION 1.6 says is handed in",
     },
     Substitution {
         file: WINDOW,
@@ -65,22 +65,22 @@ pub const SUBSTITUTIONS: &[Substitution] = &[
     Substitution {
         file: WINDOW,
         change: Change::Replace { times: 1, from: "sort_unstable_by_key", to: "sort_by_key" },
-        reason: "01: the oracle uses a stable sort, so that the lower hash wins among equal heights",
+        reason: "a stable sort, so that runs can be repeated and the lower hash wins among equal heights",
     },
     Substitution {
         file: WINDOW,
         change: Change::Replace { times: 1, from: "PartialEq, Eq, Hash)]", to: "PartialEq, Eq, Hash, PartialOrd, Ord)]" },
-        reason: "the staller key is a map's key, and 01's ordered maps need an order on it",
+        reason: "the staller key is a map's key, and the ordered maps need an order on it",
     },
     Substitution {
         file: WINDOW,
         change: Change::Body { function: "staged_byte_headroom", to: "{ stager.byte_headroom() }" },
-        reason: "01: the staged byte headroom is handed in; the original's formula reads the stager, which is left out",
+        reason: "SPECIFICATION 1.6: the staged byte headroom is handed in; the original's formula reads the stager, which is left out",
     },
     Substitution {
         file: WINDOW,
         change: Change::Body { function: "staged_count_headroom", to: "{ stager.count_headroom() }" },
-        reason: "01: the staged count headroom is handed in; the formula cannot make every number (it is tied to a setting)",
+        reason: "SPECIFICATION 1.6: the staged count headroom is handed in; the formula cannot make every number (it is tied to a setting)",
     },
 ];
 

@@ -1,4 +1,4 @@
-// What a call is refused by: 01's numbers, the lowest first, or 0. Of a request's list, 7 and 8, see `request_calls`.
+// What a call is refused by: the numbers of SPECIFICATION 4.1, the lowest first, or 0. Of a request's list, 7 and 8, see `request_calls`.
 ghost use mathlib.Core.Path.{_≡_};
 ghost use mathlib.Core.Bool.{true, false};
 ghost use Rattle.model.specs.Numbers.{clock-ok};

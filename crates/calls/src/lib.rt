@@ -1,4 +1,4 @@
-// 01, module 9: the calls that may let go, in words that hold a window, without refusals and lent report. What goes is written, nine words each,
+// SPECIFICATION 7.7: the calls that may let go, in words that hold a window, without refusals and lent report. What goes is written, nine words each,
 // in `gone`. The last clock is not set here: the public call does it last.
 ghost use mathlib.Core.Path.{_≡_};
 ghost use lib.ListN.{length};

@@ -1,4 +1,4 @@
-// 01, module 6: how much may be asked for. Counts and headrooms are any numbers; no sum is made that could wrap.
+// SPECIFICATION 6.6: how much may be asked for. Counts and headrooms are any numbers; no sum is made that could wrap.
 ghost use mathlib.Core.Path.{_≡_};
 ghost use Prim.Native.Nat.{_+_};
 ghost use lib.Dec.{leb};

@@ -1,4 +1,4 @@
-// 01, module 8: the cold front, in words that hold a window. The last clock is not set here.
+// SPECIFICATION 6.10, 7.15: the cold front, in words that hold a window. The last clock is not set here.
 ghost use mathlib.Core.Path.{_≡_};
 ghost use mathlib.Core.Bool.{cond};
 ghost use Prim.Native.Nat.{_-_, _≤_};
@@ -136,7 +136,7 @@ fn next_turn(words: &[u64], next: u64, clock: u64) -> Turn
     if limits::MAX_COLD_FRONT_HEDGES <= state_races::hedged_count(words) {
         return idle();
     }
-    // 01's name for it; it is any entry at the next height, as the Rust has it.
+    // SPECIFICATION 6.10 calls it the cold front; it is any entry at the next height, as the Rust has it.
     let lowest = state_queue::at_height(words, next);
     let Front::At(e) = lowest else {
         return idle();

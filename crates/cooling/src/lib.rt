@@ -1,4 +1,4 @@
-// 01, module 5: the keys that were found unresponsive, in place in their 256 stored times. The clock is `clock` here, since `now` in a contract
+// SPECIFICATION 6.5: the keys that were found unresponsive, in place in their 256 stored times. The clock is `clock` here, since `now` in a contract
 // reads what a slice holds.
 ghost use mathlib.Core.Path.{_≡_};
 ghost use mathlib.Core.List.{map};

@@ -1,5 +1,5 @@
-// 01, module 9: deliveries, in words that hold a window, without refusals and lent report. What goes is written, nine words each, in `gone`: the
-// delivered entry first, then what the credit let go. The last clock is not set here: the public call does it last.
+// SPECIFICATION 7.4, 7.5: deliveries, in words that hold a window, without refusals and lent report. What goes is written, nine words each, in
+// `gone`: the delivered entry first, then what the credit let go. The last clock is not set here: the public call does it last.
 ghost use mathlib.Core.Path.{_≡_};
 ghost use mathlib.Core.Bool.{true};
 ghost use mathlib.Core.List.{_++_};

@@ -1,4 +1,4 @@
-// 01, module 9: an owned fetch, in words that hold a window. Contracts as in `state`; the last clock is not set here.
+// SPECIFICATION 7.3: an owned fetch, in words that hold a window. Contracts as in `state`; the last clock is not set here.
 ghost use mathlib.Core.Path.{_≡_};
 ghost use mathlib.Core.List.{_∷_, []};
 ghost use Prim.Native.Nat.{_≤_};

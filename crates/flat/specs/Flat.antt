@@ -65,7 +65,7 @@ abbrev pub rejected-flat : Answer → FlatRejected
 rejected-flat (refused n) = record { refused = n; places = 0; released = 0 }
 rejected-flat (says places values) = record { refused = 0; places = places; released = value values 0 }
 
--- 01's decisions: 0 none, 1 and 2 blame an owner, 3 evicts, 4 hedges
+-- the decisions of SPECIFICATION 7.16: 0 none, 1 and 2 blame an owner, 3 evicts, 4 hedges
 abbrev pub blames : List ℕ → FlatBlocked
 blames v = record { refused = 0; decision = value v 0; owner = value v 1; height = 0; suppressed = 0; hash = hash 0 0 0 0 }
 

@@ -4,7 +4,7 @@ ghost use Rattle.laws.specs.Fits.{LowHeight};
 ghost use Rattle.heights.specs.Heights.{wide};
 use model::Height;
 
-// A height that may be missing, as a caller names it: 01, a height has 32 bits.
+// A height that may be missing, as a caller names it: SPECIFICATION 1.1, a height has 32 bits.
 pub enum Height32 {
     Unknown,
     Known(u32),

@@ -1,4 +1,4 @@
--- 01, "Demand 3's book": fed the calls' arguments alone. The model's definitions, run on these over a window of the book's own, say what is refused,
+-- SPECIFICATION 10: fed the calls' arguments alone. The model's definitions, run on these over a window of the book's own, say what is refused,
 -- an opened entry's values, and what goes, in which order, at which place and why; the lent words are not read. Definitions only.
 use mathlib.Core.Bool.{cond}
 use mathlib.Core.List.{List, [], _∷_}

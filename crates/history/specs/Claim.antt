@@ -64,8 +64,8 @@ pub record Claim (first ws : List ℕ) (w : Window) (b : Book) (h : List Done) :
   pub refusals : (d : Done) (old : List ℕ) → Made first h d old → Answered (refusal (d .act .call) old (length (d .act .lent))) (d .outcome .answer)
   -- a refused call leaves words and report as it found them
   pub refused-leaves : (d : Done) (old : List ℕ) → Made first h d old → (k : ℕ) → d .outcome .answer ≡ refused k → (d .outcome .words ≡ old) × (d .outcome .report ≡ d .act .lent)
-  -- ORDER. 01: "the delivered one first, the others by rising hash": so stand the n places that an answer counts. Delivered is the entry that the
-  -- hash of a delivery had in the words that it found
+  -- ORDER. SPECIFICATION 3.4: "the delivered one first, the others by rising hash": so stand the n places that an answer counts. Delivered is the
+  -- entry that the hash of a delivery had in the words that it found
   pub in-order : (d : Done) (old : List ℕ) → Made first h d old → (n : ℕ) (values : List ℕ) → d .outcome .answer ≡ says n values
       → InOrder (delivers (d .act .call) (window-of old .queue .pending)) (take n (d .outcome .report))
   -- SEATS. A seat's count plus its marked lines is its lines

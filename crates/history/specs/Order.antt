@@ -1,4 +1,4 @@
--- 01, "What each call answers and leaves", on the report: "the delivered one first, the others by rising hash". Definitions only.
+-- SPECIFICATION 3.4: "the delivered one first, the others by rising hash". Definitions only.
 use mathlib.Core.Path.{_≡_}
 use mathlib.Core.List.{List, [], _∷_}
 use Prim.Native.Nat.{_<_}

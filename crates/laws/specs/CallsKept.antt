@@ -1,4 +1,4 @@
--- Deliveries, rejections and the smaller calls of 01's module 9 keep a window sound; and so does an opening. Assumes nothing.
+-- Deliveries, rejections and the smaller calls (SPECIFICATION 7) keep a window sound; and so does an opening. Assumes nothing.
 use mathlib.Core.Path.{_≡_, refl}
 use mathlib.Core.Logic.{inl, inr}
 use mathlib.Core.Bool.{true, _&&_, _||_}

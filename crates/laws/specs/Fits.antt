@@ -6,8 +6,8 @@ use Rattle.model.specs.Refusals.{Change, Call, opens, changes, queries, request
 use Rattle.model.specs.declared.Height.{Height}
 use Rattle.model.specs.declared.Height.the-variants.{Unknown, Known}
 
--- 01, Terms: a height has 32 bits. All else may be any number: nothing that is proved here rests on the words of a hash, or on a number of bytes
--- or blocks, being below 2^64
+-- SPECIFICATION 1.1: a height has 32 bits. All else may be any number: nothing that is proved here rests on the words of a hash, or on a number of
+-- bytes or blocks, being below 2^64
 abbrev pub LowAll : List ℕ → Type 0
 LowAll [] = Unit {0}
 LowAll (t ∷ ts) = (t ≤ max-height) × LowAll ts

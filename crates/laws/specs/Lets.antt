@@ -1,4 +1,5 @@
--- 01's module 7 keeps a window sound, and what goes is picked out of the pending entries. Steps run at the clock c of the soundness. Assumes nothing.
+-- What SPECIFICATION 6.7 says keeps a window sound, and what goes is picked out of the pending entries. Steps run at the clock c of the soundness.
+-- Assumes nothing.
 use mathlib.Core.Path.{_≡_, refl, _∙_}
 use mathlib.Core.Logic.{inl, inr}
 use mathlib.Core.Bool.{Bool, not, _&&_, _||_}

@@ -1,4 +1,4 @@
--- 01's module 10 keeps a window sound, and lets nothing go. Assumes nothing.
+-- What SPECIFICATION 7.16 says keeps a window sound, and lets nothing go. Assumes nothing.
 use mathlib.Core.Path.{refl, _∙_}
 use mathlib.Core.Logic.{inl, inr}
 use mathlib.Core.Bool.{Bool, true, false, cond, _&&_, _||_}

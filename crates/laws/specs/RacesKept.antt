@@ -1,4 +1,4 @@
--- 01's modules 5 and 8 keep a window sound: cooling, the prefix probe and the cold front. Assumes nothing.
+-- What SPECIFICATION 6.5 and 6.8 to 6.10 say keeps a window sound: cooling, the prefix probe and the cold front. Assumes nothing.
 use mathlib.Core.Path.{refl}
 use mathlib.Core.Logic.{inl, inr}
 use mathlib.Core.Bool.{cond, not, _&&_, _||_}

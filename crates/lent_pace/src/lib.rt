@@ -1,5 +1,5 @@
-// 01, module 2: the pace record, lent. Three thin functions alter it, each by a rule of `pace`; `changed` lends it to one of them, for callers that
-// have it by value.
+// SPECIFICATION 6.2: the pace record, lent. Three thin functions alter it, each by a rule of `pace`; `changed` lends it to one of them, for callers
+// that have it by value.
 ghost use mathlib.Core.Path.{_≡_};
 ghost use Prim.Native.Nat.{suc, _≤_};
 ghost use Rattle.model.specs.Numbers.{max-clock, max-duration, max-front-mean};

@@ -1,5 +1,5 @@
-// 01, module 10: the stuck frontier, the stall and the pending timeout, in words that hold a window. Contracts as in `state`; `Sound` is what the
-// arithmetic asks.
+// SPECIFICATION 7.16: the stuck frontier, the stall and the pending timeout, in words that hold a window. Contracts as in `state`; `Sound` is what
+// the arithmetic asks.
 ghost use mathlib.Core.Path.{_≡_};
 ghost use mathlib.Core.Bool.{_&&_};
 ghost use Prim.Native.Nat.{_<_, _≤_};

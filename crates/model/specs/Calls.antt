@@ -1,4 +1,4 @@
--- 01, module 9: requests, deliveries and rejections. Definitions only.
+-- SPECIFICATION 7.1 to 7.7, 7.17, 7.18: requests, deliveries and rejections. Definitions only.
 use Prim.Native.Nat.{ℕ, suc, _+_, _-_, _*_, _/_}
 use mathlib.Core.Bool.{Bool, true, false, cond, not, _&&_, _||_}
 use mathlib.Core.List.{List, [], _∷_}
@@ -32,7 +32,7 @@ use Rattle.model.specs.declared.Probe.the-variants.{NoProbe, Probing}
 use Rattle.model.specs.declared.Observation.{Observation}
 use Rattle.model.specs.declared.Observation.the-variants.{Unarmed, Armed, Swept}
 
--- `DownloadWindow::new`: 01: total 0, frontier 1, mean 262,144
+-- `DownloadWindow::new`: SPECIFICATION 7.1: total 0, frontier 1, mean 262,144
 unfoldable pub opened : ℕ → Settings → List ℕ → Window
 opened now b keys =
     window b keys now 262144 1 (record { blocks = 0; bytes = 0 }) (queue 0 [] no-seats no-seats) no-seats (record { eligible = 0; engaged = false })
@@ -153,7 +153,7 @@ abbrev pub credit-by : Source → Hash → Height → ℕ → Window → Step
 credit-by Missing h height now w = stay w
 credit-by (From source) h height now w = credit-delivery-from h source height now w
 
--- 01: mean = max((7 × mean + bytes) / 8, 80)
+-- SPECIFICATION 7.4: mean = max((7 × mean + bytes) / 8, 80)
 unfoldable pub next-mean : ℕ → ℕ → ℕ
 next-mean mean bytes = greater ((mean * 7 + bytes) / 8) min-estimate
 

@@ -1,4 +1,4 @@
--- 01, module 6: how much may be asked for. The headrooms are handed in, as the Rust finds them. Definitions only.
+-- SPECIFICATION 6.6: how much may be asked for. The headrooms are handed in, as the Rust finds them. Definitions only.
 use Prim.Native.Nat.{ℕ, _+_, _-_}
 use mathlib.Core.Bool.{Bool, _||_, cond}
 use mathlib.Core.List.{[], _∷_}

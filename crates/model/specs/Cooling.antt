@@ -1,4 +1,4 @@
--- 01, module 5: peers that were found unresponsive, by key. Definitions only.
+-- SPECIFICATION 6.5: peers that were found unresponsive, by key. Definitions only.
 use Prim.Native.Nat.{ℕ, suc}
 use mathlib.Core.Bool.{Bool, _&&_, cond}
 use mathlib.Core.List.{List, map}
@@ -7,7 +7,7 @@ use lib.Dec.{ltb}
 use Rattle.model.specs.Numbers.{present, age}
 use Rattle.model.specs.Window.{Window, with-cooling}
 
--- 01: a key is cooling while its age is under the cooldown; s is its stored time
+-- SPECIFICATION 6.5: a key is cooling while its age is under the cooldown; s is its stored time
 unfoldable pub cools : ℕ → ℕ → ℕ → Bool
 cools cooldown now s = present s && ltb (age now s) cooldown
 

@@ -1,4 +1,4 @@
--- 01's starred figures, as one table, shown true of the definitions in one go.
+-- The starred figures of SPECIFICATION 11, as one table, shown true of the definitions in one go.
 use mathlib.Core.Path.{_≡_, refl}
 use mathlib.Core.Bool.{Bool, true, cond}
 use mathlib.Core.List.{List, [], _∷_, map}
@@ -120,7 +120,7 @@ pub figures-hold : map (λ f. f .computed) figures ≡ map (λ f. f .stated) fig
 unfolding figures owner-timeout expired next-mean prefix-probe-plan plan-limit plan-from walk expected-after by-height insert-by-height lowest any next-height front-recorded sample-ms front-mean-by nearer decay-floor decayed skipped peer-inflight opened pace-opened new-entry lesser greater div-ceil present age
 figures-hold = refl
 
--- 01's rule of the table of reasons, at each of the ten
+-- the rule of the table of reasons (SPECIFICATION 5.2), at each of the ten
 pub reasons-hold : map lowers (1 ∷ 2 ∷ 3 ∷ 4 ∷ 5 ∷ 6 ∷ 7 ∷ 8 ∷ 9 ∷ 10 ∷ []) ≡ map lowering-rule (1 ∷ 2 ∷ 3 ∷ 4 ∷ 5 ∷ 6 ∷ 7 ∷ 8 ∷ 9 ∷ 10 ∷ [])
 unfolding lowers lowering-rule
 reasons-hold = refl

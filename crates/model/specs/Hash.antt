@@ -14,7 +14,7 @@ base = 18446744073709551616
 unfoldable pub wide : ℕ → ℕ → ℕ
 wide x u = x * base + u
 
--- 01, Terms: 32 bytes, ordered from the first byte
+-- SPECIFICATION 1.1: 32 bytes, ordered from the first byte
 unfoldable pub key : Hash → ℕ
 key h = wide (wide (wide (h .a) (h .b)) (h .c)) (h .d)
 

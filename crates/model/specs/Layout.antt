@@ -266,7 +266,7 @@ read t =
 abbrev pub is-0 : ℕ → Bool
 is-0 x = eqb x 0
 
--- 01: settings are in range
+-- SPECIFICATION 1.5: settings are in range
 unfoldable pub settings-ok : Settings → Bool
 settings-ok b =
     every (leb (b .«max_pending_blocks») max-pending ∷ leb (b .«max_pending_bytes») max-byte-limit ∷ leb (b .«max_received_blocks») max-count
@@ -373,7 +373,7 @@ unfoldable pub records-ok : Table → Bool
 records-ok t =
     every (all is-blank (drop (word head-count t) (t .entries)) ∷ all (entry-ok (word head-last-clock t)) (live t) ∷ rising (live t) ∷ eqb (word head-total t) (sum (live t)) ∷ [])
 
--- 01: words count as a window when ..
+-- SPECIFICATION 9.2: words count as a window when ..
 unfoldable pub valid : Table → Bool
 valid t = every (head-ok t ∷ all is-0 (t .spare) ∷ records-ok t ∷ tables-ok t ∷ [])
 

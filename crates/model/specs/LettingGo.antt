@@ -1,4 +1,4 @@
--- 01, module 7: the ways in which entries are let go. Definitions only.
+-- SPECIFICATION 6.7 and 7.8 to 7.12: the ways in which entries are let go. Definitions only.
 -- Three ways, as in the Rust: `remove-pending` takes one entry and resets its owner's start; the sweep takes all out and then resets once for
 -- each; `retain-peer-assignments` drops whole seats and resets nothing.
 use Prim.Native.Nat.{ℕ, zero, suc, _-_}
@@ -195,7 +195,7 @@ roles-kept owns w =
     (with-preferred (peer-kept owns (w .races .preferred))
     (with-cold (cold-kept owns (w .races .cold)) w)))
 
--- 01: flags by seat, nonzero for owned
+-- SPECIFICATION 7.12: flags by seat, nonzero for owned
 unfoldable pub flagged : List ℕ → ℕ → Bool
 flagged flags s = not (eqb (getD flags s 0) 0)
 

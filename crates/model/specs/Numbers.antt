@@ -13,11 +13,11 @@ greater a b = cond (leb a b) b a
 unfoldable pub div-ceil : ℕ → ℕ → ℕ
 div-ceil a b = (a + (b - 1)) / b
 
--- 01, Terms: a clock is at most 2^62
+-- SPECIFICATION 1.3: a clock is at most 2^62
 abbrev pub max-clock : ℕ
 max-clock = 4611686018427387904
 
--- 01, refusal 4: a clock is at most 2^62 and not before the last accepted one
+-- SPECIFICATION 4.1, refusal 4: a clock is at most 2^62 and not before the last accepted one
 unfoldable pub clock-ok : ℕ → ℕ → Bool
 clock-ok last c = leb c max-clock && leb last c
 
@@ -25,7 +25,7 @@ clock-ok last c = leb c max-clock && leb last c
 unfoldable pub read-clock : ℕ → ℕ → ℕ
 read-clock last c = c
 
--- 01, Terms: a height has 32 bits
+-- SPECIFICATION 1.1: a height has 32 bits
 abbrev pub max-height : ℕ
 max-height = 4294967295
 
@@ -33,18 +33,18 @@ max-height = 4294967295
 unfoldable pub next-height : ℕ → ℕ
 next-height h = lesser (suc h) max-height
 
--- 01: estimates and mean lie in 80 to 4,294,967,295
+-- SPECIFICATION 9.2: estimates and mean lie in 80 to 4,294,967,295
 abbrev pub min-estimate : ℕ
 min-estimate = 80
 
 abbrev pub max-estimate : ℕ
 max-estimate = 4294967295
 
--- 01, refusal 9: a body's bytes. Another name than `max-estimate`, since the two need not stay equal
+-- SPECIFICATION 4.1, refusal 9: a body's bytes. Another name than `max-estimate`, since the two need not stay equal
 abbrev pub max-body : ℕ
 max-body = 4294967295
 
--- 01, refusal 5
+-- SPECIFICATION 4.1, refusal 5
 abbrev pub max-duration : ℕ
 max-duration = 1000000000000000
 
@@ -58,7 +58,7 @@ max-count = 65535
 abbrev pub max-pending : ℕ
 max-pending = 256
 
--- 01, Terms: seats and keys are 0 to 255
+-- SPECIFICATION 1.2: seats and keys are 0 to 255
 abbrev pub max-seat : ℕ
 max-seat = 255
 

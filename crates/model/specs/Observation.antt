@@ -1,4 +1,4 @@
--- 01, module 10: what a look at a blocked window comes to. Definitions only.
+-- SPECIFICATION 7.16: what a look at a blocked window comes to. Definitions only.
 use Prim.Native.Nat.{ℕ, _-_, _*_, _/_}
 use mathlib.Core.Bool.{Bool, false, cond, _&&_}
 use lib.Dec.{eqb, ltb, leb}

@@ -1,4 +1,4 @@
--- 01, module 2: the pace of the front. Definitions only.
+-- SPECIFICATION 6.2: the pace of the front. Definitions only.
 use Prim.Native.Nat.{ℕ, zero, suc, _+_, _-_, _*_, _/_}
 use mathlib.Core.Bool.{Bool, cond}
 use mathlib.Core.List.{List}
@@ -24,12 +24,12 @@ sample-ms now advance = age now advance / 1000000
 unfoldable pub nearer : ℕ → ℕ → ℕ
 nearer m sample = cond (leb m sample) (m + (sample - m) / 4) (m - (m - sample) / 4)
 
--- 01: without a mean the sample is the mean
+-- SPECIFICATION 6.2: without a mean the sample is the mean
 abbrev pub mean-by : ℕ → ℕ → ℕ
 mean-by zero sample = suc sample
 mean-by (suc m) sample = suc (nearer m sample)
 
--- 01: a sample under 50 ms leaves the front mean
+-- SPECIFICATION 6.2: a sample under 50 ms leaves the front mean
 unfoldable pub front-mean-by : ℕ → ℕ → ℕ
 front-mean-by mean sample = cond (ltb sample min-sample) mean (mean-by mean sample)
 
@@ -50,7 +50,7 @@ decay-floor initial most mean = lesser (greater (twice-ns mean) initial) most
 unfoldable pub stall-decay-floor : Settings → Pace → ℕ
 stall-decay-floor b p = decay-floor (b .«stall_timeout_initial») (b .«stall_timeout_max») (p .mean)
 
--- 01: each front turns the stall wait into max(wait × 85 / 100, decay floor)
+-- SPECIFICATION 6.2: each front turns the stall wait into max(wait × 85 / 100, decay floor)
 unfoldable pub decayed : ℕ → ℕ → ℕ
 decayed wait floor = greater (wait * 85 / 100) floor
 
@@ -60,7 +60,7 @@ front-recorded b now p =
     let mean = front-mean now (p .advance) (p .mean) in
     pace mean (suc now) (decayed (p .wait) (decay-floor (b .«stall_timeout_initial») (b .«stall_timeout_max») mean))
 
--- 01: a front when every entry still pending is higher
+-- SPECIFICATION 6.2: a front when every entry still pending is higher
 unfoldable pub was-front : ℕ → List Entry → Bool
 was-front height pending = all (λ e. ltb height (e .height)) pending
 

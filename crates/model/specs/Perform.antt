@@ -39,7 +39,7 @@ reports s = record { window = s .window; gone = s .gone; values = [] }
 abbrev pub reports-with : Step → List ℕ → Deed
 reports-with s values = record { window = s .window; gone = s .gone; values = values }
 
--- 01: owned fetch says held, staged, asked or no capacity
+-- SPECIFICATION 7.3: owned fetch says held, staged, asked or no capacity
 abbrev pub fetch-values : Fetching → List ℕ
 fetch-values held = 0 ∷ []
 fetch-values staged = 1 ∷ []
@@ -90,7 +90,7 @@ abbrev pub moment-of : Moment → ℕ → ℕ
 moment-of timeless last = last
 moment-of (at c) last = read-clock last c
 
--- 01: accepted changing calls that take a clock set the last clock, the others leave it
+-- SPECIFICATION 3.3: accepted changing calls that take a clock set the last clock, the others leave it
 unfoldable pub changed : Change → Window → Deed
 changed x w =
     let now = moment-of (checks x .moment) (w .clock) in

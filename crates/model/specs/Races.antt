@@ -1,4 +1,4 @@
--- 01, module 8: the prefix probe and the cold front. Definitions only.
+-- SPECIFICATION 6.8 to 6.10: the prefix probe and the cold front. Definitions only.
 use Prim.Native.Nat.{ℕ, zero, suc, _-_, _*_, _/_, _%_, _^_}
 use mathlib.Core.Bool.{Bool, true, false, cond, not, _&&_, _||_}
 use mathlib.Core.List.{List, [], _∷_, _++_}
@@ -121,7 +121,7 @@ unfoldable pub place-of : Hash → List Hash → ℕ
 place-of h [] = 0
 place-of h (x ∷ l) = cond (same x h) 0 (suc (place-of h l))
 
--- 01: the ones among the four lowest bits number four
+-- SPECIFICATION 6.9: the ones among the four lowest bits number four
 unfoldable pub all-four : ℕ → Bool
 all-four progress = eqb (ones (progress % 16)) win-blocks
 
@@ -139,7 +139,7 @@ unfoldable pub winner : ℕ → List ℕ → Source
 winner i [] = Missing
 winner i (r ∷ rs) = cond (has-won r) (From i) (winner (suc i) rs)
 
--- 01: a win lets go the entries of every other racer; an owner that did not win is cooled
+-- SPECIFICATION 6.9: a win lets go the entries of every other racer; an owner that did not win is cooled
 unfoldable pub race-won : ℕ → ℕ → List ℕ → ℕ → Window → Step
 race-won win owner racers now w =
     after

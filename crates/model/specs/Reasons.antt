@@ -17,7 +17,7 @@ lowering = 0 ∷ 0 ∷ 1 ∷ 1 ∷ 0 ∷ 0 ∷ 1 ∷ 1 ∷ 1 ∷ 1 ∷ 1 ∷ []
 unfoldable pub lowers : ℕ → Bool
 lowers r = eqb (getD lowering r 0) 1
 
--- 01: all but 1, 4 and 5
+-- SPECIFICATION 5.2: all but 1, 4 and 5
 unfoldable pub lowering-rule : ℕ → Bool
 lowering-rule r = not (eqb r 1 || eqb r 4 || eqb r 5)
 

@@ -1,4 +1,4 @@
--- 01, module 3: the records, strictly rising by hash. Definitions only.
+-- SPECIFICATION 6.3: the records, strictly rising by hash. Definitions only.
 use Prim.Native.Nat.{ℕ, _+_}
 use mathlib.Core.Bool.{Bool, true, false, cond}
 use mathlib.Core.List.{List, [], _∷_}
@@ -39,7 +39,7 @@ abbrev pub lower : Entry → Front → Front
 lower e Nothing = At e
 lower e (At x) = cond (leb (e .height) (x .height)) (At e) (At x)
 
--- `min_by_key(height)`; 01: equal heights, lower hash
+-- `min_by_key(height)`; SPECIFICATION 6.3: equal heights, lower hash
 unfoldable pub lowest : List Entry → Front
 lowest [] = Nothing
 lowest (e ∷ l) = lower e (lowest l)

@@ -1,4 +1,4 @@
--- What each case of an answer that the code returns says: 01's number and values. Definitions only.
+-- What each case of an answer that the code returns says: its number and values (SPECIFICATION 3.5). Definitions only.
 use Prim.Native.Nat.{ℕ}
 use mathlib.Core.List.{List, [], _∷_}
 use Rattle.model.specs.Hash.{hash-words}

@@ -1,4 +1,4 @@
--- 01, module 4: start times and last body times by seat. Definitions only.
+-- SPECIFICATION 6.4: start times and last body times by seat. Definitions only.
 use Prim.Native.Nat.{ℕ, zero, suc}
 use mathlib.Core.Bool.{Bool, cond}
 use mathlib.Core.List.{List, [], _∷_}

@@ -1,4 +1,4 @@
--- 01, module 1: owner timeout and expiry. Definitions only.
+-- SPECIFICATION 6.1: owner timeout and expiry. Definitions only.
 use Prim.Native.Nat.{ℕ, _+_, _-_, _*_, _/_}
 use mathlib.Core.Bool.{Bool, _&&_}
 use lib.ListN.{getD}
@@ -11,7 +11,7 @@ use Rattle.model.specs.Window.{Window}
 unfoldable pub owner-timeout : ℕ → ℕ → ℕ
 owner-timeout spacing active = spacing * (2 + (active - 1)) / 2
 
--- 01: a seat is expired when clock - start ≥ timeout; s is its stored start
+-- SPECIFICATION 6.1: a seat is expired when clock - start ≥ timeout; s is its stored start
 unfoldable pub expired : ℕ → ℕ → ℕ → Bool
 expired now timeout s = present s && leb timeout (age now s)
 

@@ -1,4 +1,4 @@
--- The window: the state that every definition works on, the Rust's `DownloadWindow` without what 01 leaves out. Definitions only.
+-- The window: the state that every definition works on, the Rust's `DownloadWindow` without what SPECIFICATION 1.7 leaves out. Definitions only.
 -- Seats, keys and racers are lists of 256 numbers; a missing time is 0 there and a time t is t + 1.
 use Prim.Native.Nat.{ℕ}
 use mathlib.Core.List.{List, [], _++_}

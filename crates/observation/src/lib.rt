@@ -1,4 +1,4 @@
-// 01, module 10: `observe_blocked`, in words that hold a window: its steps in order, and what they come to. The last clock is not set here.
+// SPECIFICATION 7.16: `observe_blocked`, in words that hold a window: its steps in order, and what they come to. The last clock is not set here.
 ghost use mathlib.Core.Path.{_≡_};
 ghost use mathlib.Core.Bool.{Bool};
 ghost use Prim.Native.Nat.{ℕ};

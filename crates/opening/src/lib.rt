@@ -1,4 +1,4 @@
-// 01, module 9: the opening, on any 4,096 words.
+// SPECIFICATION 7.1: the opening, on any 4,096 words.
 ghost use mathlib.Core.Path.{_≡_};
 ghost use lib.ListN.{length};
 ghost use Rattle.model.specs.Calls.{opened};

@@ -1,4 +1,4 @@
-// 01, module 2: the rules of the pace, by value. What they ask are the ranges in which every window keeps its pace.
+// SPECIFICATION 6.2: the rules of the pace, by value. What they ask are the ranges in which every window keeps its pace.
 ghost use mathlib.Core.Path.{_≡_};
 ghost use Prim.Native.Nat.{suc, _≤_};
 ghost use Rattle.model.specs.Numbers.{max-clock, max-duration, max-front-mean};

@@ -1,4 +1,4 @@
-// 01, module 8: the planned hashes of a prefix probe by value, a row of four words each, and the whole answer, of words that hold a window.
+// SPECIFICATION 6.8: the planned hashes of a prefix probe by value, a row of four words each, and the whole answer, of words that hold a window.
 ghost use mathlib.Core.Path.{_≡_};
 ghost use mathlib.Core.Bool.{cond};
 ghost use Prim.Native.Nat.{_≤_, _<_};

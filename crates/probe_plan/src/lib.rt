@@ -1,4 +1,4 @@
-// 01, module 8: the plan of a prefix probe, of words that hold a window.
+// SPECIFICATION 6.8: the plan of a prefix probe, of words that hold a window.
 ghost use mathlib.Core.Path.{_≡_};
 ghost use mathlib.Core.Bool.{not};
 ghost use Prim.Native.Nat.{_≤_, _<_};

@@ -1,5 +1,5 @@
-// 01, module 8: a delivery in the race of a prefix probe, in words that hold a window. What goes is written, nine words each, in `gone`; the answer
-// is how many. The last clock is not set here.
+// SPECIFICATION 6.9: a delivery in the race of a prefix probe, in words that hold a window. What goes is written, nine words each, in `gone`; the
+// answer is how many. The last clock is not set here.
 ghost use mathlib.Core.Path.{_≡_};
 ghost use mathlib.Core.Bool.{cond, not, _||_};
 ghost use Prim.Native.Nat.{_≤_, _<_, _^_};

@@ -1,5 +1,5 @@
-// 01, module 8: what a delivery does to the races, in words that hold a window. What goes is written, nine words each, in `gone`; the answer is how
-// many. The last clock is not set here.
+// SPECIFICATION 6.9, 6.10: what a delivery does to the races, in words that hold a window. What goes is written, nine words each, in `gone`; the
+// answer is how many. The last clock is not set here.
 ghost use mathlib.Core.Path.{_≡_};
 ghost use Prim.Native.Nat.{ℕ, _≤_, _<_};
 ghost use lib.ListN.{length};

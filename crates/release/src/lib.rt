@@ -1,5 +1,5 @@
-// 01, module 7, without refusals and lent report: one entry let go, released or for a retry. What goes is written, nine words each, in
-// `gone`; the answer is how many. The last clock is not set here: the public call does that last.
+// SPECIFICATION 6.7, 7.9, 7.10, without refusals and lent report: one entry let go, released or for a retry. What goes is written, nine words each,
+// in `gone`; the answer is how many. The last clock is not set here: the public call does that last.
 ghost use mathlib.Core.Path.{_≡_};
 ghost use Prim.Native.Nat.{_<_, _≤_};
 ghost use lib.ListN.{length, getD};

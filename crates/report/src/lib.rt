@@ -1,4 +1,4 @@
-// 01's form for the report: a lent slice of `Release`, filled by one thin writer from the flat words that the proved steps fill.
+// The report's form (SPECIFICATION 13): a lent slice of `Release`, filled by one thin writer from the flat words that the proved steps fill.
 ghost use mathlib.Core.Path.{_≡_};
 ghost use mathlib.Core.List.{_++_};
 ghost use Prim.Native.Nat.{_<_, _≤_, _+_, _*_};

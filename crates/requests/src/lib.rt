@@ -1,4 +1,4 @@
-// 01, module 9: a request's entries go in, in words that hold a window. Contracts as in `state`; the last clock is not set here.
+// SPECIFICATION 7.2: a request's entries go in, in words that hold a window. Contracts as in `state`; the last clock is not set here.
 ghost use mathlib.Core.Path.{_≡_};
 ghost use Prim.Native.Nat.{_+_, _/_, _≤_};
 ghost use lib.ListN.{length};

@@ -1,5 +1,5 @@
-// 01, module 7, without refusals and lent report: whole seats dropped, with all that is theirs. `flags` has a word for each seat, nonzero where it is
-// kept. What goes is written, nine words each, in `gone`; the answer is how many.
+// SPECIFICATION 6.7, 7.12, without refusals and lent report: whole seats dropped, with all that is theirs. `flags` has a word for each seat, nonzero
+// where it is kept. What goes is written, nine words each, in `gone`; the answer is how many.
 ghost use mathlib.Core.Path.{_≡_};
 ghost use Prim.Native.Nat.{_≤_};
 ghost use lib.ListN.{length};

@@ -1,4 +1,4 @@
-// 01, module 9: the rules of deliveries, rejections and fan-out, by value.
+// SPECIFICATION 7.4 to 7.7, 7.17: the rules of deliveries, rejections and fan-out, by value.
 ghost use mathlib.Core.Path.{_≡_};
 ghost use mathlib.Core.Bool.{true, false, cond, not, _&&_};
 ghost use Prim.Native.Nat.{suc, _≤_};

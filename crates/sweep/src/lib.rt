@@ -1,5 +1,5 @@
-// 01, module 7, without refusals and lent report: the sweep, retirement and the forecast. What goes is written, nine words each, in `gone`; the
-// answer is how many. The last clock is not set here: the public call does that last.
+// SPECIFICATION 6.7, 7.8, 7.11, without refusals and lent report: the sweep, retirement and the forecast. What goes is written, nine words each, in
+// `gone`; the answer is how many. The last clock is not set here: the public call does that last.
 ghost use mathlib.Core.Path.{_≡_};
 ghost use mathlib.Core.Bool.{true};
 ghost use mathlib.Core.List.{map};

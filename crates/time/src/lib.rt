@@ -1,4 +1,4 @@
-// 01, module 1: owner timeout and expiry.
+// SPECIFICATION 6.1: owner timeout and expiry.
 ghost use mathlib.Core.Path.{_≡_};
 ghost use Prim.Native.Nat.{suc, _≤_};
 ghost use Rattle.model.specs.Numbers.{max-clock, max-duration, max-seat};

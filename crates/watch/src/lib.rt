@@ -1,4 +1,4 @@
-// 01, module 10: the rules of a look, by value.
+// SPECIFICATION 7.16: the rules of a look, by value.
 ghost use mathlib.Core.Path.{_≡_};
 ghost use Prim.Native.Nat.{_≤_};
 ghost use Rattle.model.specs.Numbers.{max-duration};

@@ -287,7 +287,7 @@ pub struct Entry {
     pub estimated_bytes: u64,
 }
 
-/// 01's ten reasons.
+/// The ten reasons (SPECIFICATION 5.1).
 #[derive(Clone, Copy, Debug, PartialEq, Eq, PartialOrd, Ord)]
 #[repr(u8)]
 pub enum Reason {
@@ -379,7 +379,7 @@ pub struct State {
 #[derive(Clone, Debug, PartialEq, Eq)]
 pub struct Outcome {
     pub answer: Answer,
-    /// 01's report: the delivered one first, the others by rising hash.
+    /// The report (SPECIFICATION 3.4): the delivered one first, the others by rising hash.
     pub gone: Vec<Release>,
     pub state: State,
 }

@@ -1,4 +1,4 @@
-//! 01's figures that speak of the Rust, and its sentences near them, run on any window.
+//! The figures of SPECIFICATION 11 that speak of the Rust, and sentences near them, run on any window.
 
 use crate::data::*;
 

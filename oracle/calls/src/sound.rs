@@ -1,4 +1,4 @@
-//! What 01 says of every window made by calls ("Words count as a window when"), told of a state.
+//! What SPECIFICATION 9.2 says of every window made by calls, told of a state.
 
 use crate::data::*;
 

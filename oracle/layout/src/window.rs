@@ -1,4 +1,4 @@
-//! 01's list "Words count as a window when", of states: what their words hold is told by the reader.
+//! the list of SPECIFICATION 9.2, which words are a window,, of states: what their words hold is told by the reader.
 
 use crate::decode;
 use calls::{Clock, ColdFront, MAX_BYTE_LIMIT, MAX_CLOCK, MAX_COUNT, MAX_DURATION, MAX_PENDING, Settings, State};
@@ -59,7 +59,7 @@ fn starts_belong(state: &State) -> bool {
     })
 }
 
-/// 01, refusal 5: a duration, a byte limit, the pending blocks, another count.
+/// SPECIFICATION 4.1, refusal 5: a duration, a byte limit, the pending blocks, another count.
 pub fn settings_in_range(settings: &Settings) -> bool {
     let durations = [
         settings.block_spacing,

@@ -130,7 +130,7 @@ fn refusals(seed: u64) -> Found {
     refused.run(seed);
     let mut lines = vec![
         format!(
-            "{} calls tried on windows of seed {seed} and on other words: answered by 01's list written down independently (`oracle/raw`), and refused ones \
+            "{} calls tried on windows of seed {seed} and on other words: answered by the list of SPECIFICATION 4, written down independently (`oracle/raw`), and refused ones \
              left words and report as they were. By number (0: accepted), and how many sets of two causes or more.",
             refused.tries
         ),
@@ -159,7 +159,7 @@ fn damage(cases: u64, seed: u64) -> Found {
 fn held_figures() -> Found {
     let start = Instant::now();
     let (original, library) = (figures::held::<Original>(), figures::held::<Library>());
-    let mut lines = vec!["| figure or sentence of 01 | the Rust | the library |\n|---|---|---|".to_string()];
+    let mut lines = vec!["| figure or sentence | the Rust | the library |\n|---|---|---|".to_string()];
     let mut failures = Vec::new();
     let mut passed = 0;
     for ((figure, theirs), (_, mine)) in original.into_iter().zip(library) {
@@ -171,7 +171,7 @@ fn held_figures() -> Found {
     lines.push(format!("| 256 pending: a request with one more hash is 8 | {pending} pending | {} |", held(full)));
     passed += u64::from(full);
     failures.extend((!full).then(|| "256 pending and one more".to_string()));
-    Found { title: "01's figures through both", lines, passed, failures, seconds: start.elapsed().as_secs() }
+    Found { title: "The figures of SPECIFICATION 11 through both", lines, passed, failures, seconds: start.elapsed().as_secs() }
 }
 
 fn meant_to_differ() -> Found {

@@ -1,4 +1,4 @@
-//! Refusals through the library against 01's list, written down independently in `raw`: every number from every call, two causes at
+//! Refusals through the library against the list of SPECIFICATION 4, written down independently in `raw`: every number from every call, two causes at
 //! once, both sides of every limit; words and report are as they were, to the byte.
 
 use crate::lent::{Lent, Said};
@@ -76,7 +76,7 @@ impl Refused {
         }
     }
 
-    /// Every call meets every number that 01 has for it.
+    /// Every call meets every number that SPECIFICATION 4.3 has for it.
     fn look_for_gaps(&mut self) {
         for (kind, counts) in &self.counts {
             let met: BTreeSet<u8> = counts.keys().copied().collect();
@@ -138,7 +138,7 @@ pub fn answers(call: &Call, words: &[u64], places: usize, number: u8) -> Result<
     }
 }
 
-/// 01, "Who can cause a refusal": the numbers that each call can meet, and 0.
+/// SPECIFICATION 4: the numbers that each call can meet, and 0.
 fn numbers(kind: &str) -> Vec<u8> {
     let timeless = [
         "CreditDuplicateDelivery",
@@ -165,7 +165,7 @@ fn numbers(kind: &str) -> Vec<u8> {
     }
 }
 
-/// 01's figure: 256 pending, a request with one more hash is 8; and how many the Rust then has pending.
+/// The figure of SPECIFICATION 11: 256 pending, a request with one more hash is 8; and how many the Rust then has pending.
 pub fn one_more_than_256() -> (bool, usize) {
     let window = &windows::chosen()[3];
     let call = request(window.state.last_clock, list(0..1), 1);

@@ -7,7 +7,7 @@ use crate::substitutions::{POLICY, WINDOW, body_of, substituted};
 use std::fs;
 use std::process::Command;
 
-/// The functions that 01 ports and that have a block of their own.
+/// The functions that are ported and that have a block of their own.
 const PORTED: &[&str] = &[
     "set_fanout_eligible_peers",
     "effective_peer_inflight",
@@ -60,9 +60,9 @@ const PORTED: &[&str] = &[
 /// Function and block in it, from 1: those that no calls reach, and why.
 const UNREACHED: &[(&str, usize, &str)] = &[
     ("confirm_cold_front_hedge", 4, "a new front is never confirmed once two are hedged (EVENTS.md)"),
-    ("effective_owner_timeout", 2, "the test override, left out by 01"),
-    ("retire_before", 3, "the stager's part, left out by 01"),
-    ("retire_before", 4, "the stager's part, left out by 01"),
+    ("effective_owner_timeout", 2, "the test override, left out (SPECIFICATION 1.7)"),
+    ("retire_before", 3, "the stager's part, left out (SPECIFICATION 1.7)"),
+    ("retire_before", 4, "the stager's part, left out (SPECIFICATION 1.7)"),
     ("record_prefix_probe_delivery", 4, "the index of one of eight hashes fits 32 bits"),
 ];
 

@@ -188,7 +188,7 @@ fn count_arms(options: &Options) -> bool {
     }
 }
 
-/// Every state the original reaches keeps 01's rules of what counts as a window, and can be loaded into a fresh one.
+/// Every state the original reaches keeps the rules of SPECIFICATION 9.2 of what counts as a window, and can be loaded into a fresh one.
 fn sound(options: &Options) -> bool {
     let mut failed = 0;
     let (calls, sequences) = drive(options, |_, call, outcome| {
@@ -201,7 +201,7 @@ fn sound(options: &Options) -> bool {
             println!("{broken:?} after {call:?}");
         }
     });
-    println!("{calls} states in {sequences} sequences (seed {}) held against 01's rules of a window, and loaded", options.seed);
+    println!("{calls} states in {sequences} sequences (seed {}) held against SPECIFICATION 9.2, and loaded", options.seed);
     println!("{} passed, {failed} failed", calls - failed);
     failed == 0
 }

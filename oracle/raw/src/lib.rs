@@ -1,4 +1,4 @@
-//! Calls as a host can make them, with arguments that 01 refuses too, and 01's list of refusals written down once more.
+//! Calls as a host can make them, with arguments that are refused too, and the list of refusals of SPECIFICATION 4 written down once more.
 
 mod data;
 mod refusal;

@@ -1,4 +1,4 @@
-//! 01, "Who can cause a refusal".
+//! SPECIFICATION 4.
 
 use crate::Call;
 use calls::{MAX_BODY, MAX_CLOCK, MAX_PENDING, SEATS, State};

@@ -1,5 +1,5 @@
 //! Writes closed antt checks of the definitions' refusals: every number from every call, two causes at once, and both sides of every
-//! limit. What is expected comes from `raw`, 01's list written down independently.
+//! limit. What is expected comes from `raw`, the list of SPECIFICATION 4 written down independently.
 //! refusals SEED MODEL OUT: MODEL is the folder of the model's specs, OUT the crate folder to write.
 
 use calls::random::Random;

@@ -105,7 +105,7 @@ fn queries(clock: Clock) -> Vec<Call> {
     queries
 }
 
-/// Every way to spoil a call that 01's list looks at, on either side of each limit.
+/// Every way to spoil a call that the list of SPECIFICATION 4 looks at, on either side of each limit.
 pub fn variations(call: &Call, state: &State) -> Vec<Try> {
     let plain = Try { call: call.clone(), places: 256 };
     let mut tries: Vec<Try> = [0, 255, 256, 257].map(|places| Try { places, ..plain.clone() }).to_vec();

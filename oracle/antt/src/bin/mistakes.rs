@@ -15,7 +15,7 @@ struct Mistake {
     new: String,
     /// An event, or a module of checks, by which it is likely to be caught.
     hint: String,
-    /// Where 01 names it, or what it is.
+    /// Where SPECIFICATION 12 names it, or what it is.
     about: String,
 }
 
