@@ -1,40 +1,42 @@
-// What a host does: each function is one call, written as one line, and answers the book after it.
-ghost use mathlib.Core.Path.{_≡_};
+// What a host does: one function for each call of the script. Each answers what is said of it, and the book after it.
 ghost use Prim.Native.Nat.{_≤_};
-ghost use lib.ListN.{length};
-ghost use Rattle.model.specs.Hash.{hash};
-use crate::book::Book;
 use heights::Height32;
 use lend::LetGoWords;
-use lines::line::begin;
-use lines::line::begin_alone;
-use lines::line::blocks;
-use lines::line::clock_of;
-use lines::line::finish;
-use lines::line::finish_alone;
+use lines::Said;
 use model::Accepted;
 use model::Fetch;
 use model::Hash;
-use model::LetGo;
-use model::Received;
-use model::Rejected;
+use model::Number;
 use model::Requested;
 use model::Settings;
 use model::Sought;
 use model::Source;
 
+// A step of the script: tenths of a second, which call (as lines::words counts them), and its numbers.
+pub(crate) struct Step {
+    pub time: u64,
+    pub call: usize,
+    pub peer: u64,
+    pub first: u32,
+    pub count: u64,
+    pub other: u64,
+}
+
+// What was opened, and what was let go by reason, in blocks and in bytes.
+pub(crate) struct Book {
+    pub blocks: u64,
+    pub bytes: u64,
+    pub gone: [u64; 11],
+    pub gone_bytes: [u64; 11],
+}
+
+pub(crate) struct Outcome {
+    pub said: Said,
+    pub book: Book,
+}
+
 // More room for staged blocks than the script needs.
 const ROOM: u64 = 1_000_000_000;
-
-// The block of a height: the script has one chain, and its hashes count up.
-fn hash_of(height: u32) -> Hash {
-    Hash {
-        a: 0,
-        b: 0,
-        c: 0,
-        d: height as u64,
-    }
-}
 
 // The settings of the Rust's `default_sync_budget`, on a network with a block every ten minutes.
 fn settings() -> Settings {
@@ -54,30 +56,64 @@ fn settings() -> Settings {
     }
 }
 
-// Each seat has a key of its own.
-fn keys() -> [u64; 256] {
-    let mut l: [u64; 256] = [0; 256];
-    let mut i: usize = 0;
-    while i < 256 {
-        l[i] = i as u64;
-        i += 1;
+// The block of a height: the script has one chain, and its hashes count up.
+fn hash_of(height: u32) -> Hash {
+    Hash {
+        a: 0,
+        b: 0,
+        c: 0,
+        d: height as u64,
     }
-    l
 }
 
-pub fn open(words: &mut [u64], time: u32)
-    ensures { λ _. ⌜ length (now (words .exit)) ≡ length (now (words .entry)) ⌝ }
-{
-    let l = keys();
-    let s = settings();
-    let r = window::open(words, s, &l, clock_of(time));
-    begin_alone(time, b"open");
-    blocks(0, 0);
-    let w = lines::say::accepted(r);
-    finish_alone(words, w);
+// Nanoseconds.
+fn clock_of(time: u64) -> u64 {
+    if time > 1_000_000 {
+        return 0;
+    }
+    time * 100_000_000
 }
 
-// The hashes of eight blocks, four words each.
+fn value(n: Number) -> u64 {
+    match n {
+        Number::Refused(k) => 0,
+        Number::Is(x) => x,
+    }
+}
+
+fn done(said: Said, book: Book) -> Outcome {
+    Outcome { said, book }
+}
+
+// n blocks were opened, each with this estimate.
+fn opened(b: Book, n: u64, estimate: u64) -> Book {
+    let blocks = ledger::add(b.blocks, 1, n);
+    let bytes = ledger::add(b.bytes, estimate, n);
+    let gone = b.gone;
+    let gone_bytes = b.gone_bytes;
+    Book {
+        blocks,
+        bytes,
+        gone,
+        gone_bytes,
+    }
+}
+
+// What the first n places of a report let go.
+fn booked(b: Book, report: [u64; 2304], n: usize) -> Book {
+    let x = b.gone;
+    let y = b.gone_bytes;
+    let gone = ledger::tally(x, report, n, false);
+    let gone_bytes = ledger::tally(y, report, n, true);
+    Book {
+        blocks: b.blocks,
+        bytes: b.bytes,
+        gone,
+        gone_bytes,
+    }
+}
+
+// The hashes of eight blocks, four words each, and their heights.
 fn hashes_from(first: u32) -> [u64; 32] {
     let mut l: [u64; 32] = [0; 32];
     let mut i: usize = 0;
@@ -108,7 +144,7 @@ fn heights_from(first: u32) -> [u32; 8] {
     l
 }
 
-fn at_most_eight(n: u32) -> usize
+fn at_most_eight(n: u64) -> usize
     ensures { λ r. ⌜ r ≤ 8 ⌝ }
 {
     if n > 8 {
@@ -117,7 +153,8 @@ fn at_most_eight(n: u32) -> usize
     n as usize
 }
 
-fn opened_by(r: Requested, n: u32) -> u32 {
+// How many blocks of a list of n a request opened.
+fn opened_by(r: Requested, n: u64) -> u64 {
     match r {
         Requested::Refused(k) => 0,
         Requested::Full => n,
@@ -125,19 +162,17 @@ fn opened_by(r: Requested, n: u32) -> u32 {
     }
 }
 
-// A request of n blocks, at most eight, from the first on.
-pub fn ask(words: &mut [u64], b: Book, time: u32, peer: u64, first: u32, n: u32) -> Book
-    ensures { λ r. ⌜ (length (now (words .exit)) ≡ length (now (words .entry))) × (r .gone ≡ b .gone) ⌝ }
-{
-    let estimate = lines::line::estimate(words);
-    let hashes = hashes_from(first);
-    let heights = heights_from(first);
-    let k = at_most_eight(n);
-    let next = height_after(first, k);
-    let clock = clock_of(time);
+// A request of `count` blocks from the first on, at most eight: as many as are handed in are booked.
+fn ask(words: &mut [u64], b: Book, s: Step) -> Outcome {
+    let e = window_queries::ewma_block_bytes(words);
+    let hashes = hashes_from(s.first);
+    let heights = heights_from(s.first);
+    let k = at_most_eight(s.count);
+    let next = height_after(s.first, k);
+    let clock = clock_of(s.time);
     let r = window::mark_requested(
         words,
-        peer,
+        s.peer,
         &hashes[..4 * k],
         &heights[..k],
         next,
@@ -145,14 +180,14 @@ pub fn ask(words: &mut [u64], b: Book, time: u32, peer: u64, first: u32, n: u32)
         ROOM,
         clock,
     );
-    begin(time, b"mark_requested", peer);
-    blocks(first, n);
-    let w = lines::say::requested(r);
-    finish(words, w, peer);
-    crate::book::opened(b, opened_by(r, n), estimate)
+    let n = k as u64;
+    done(
+        lines::words::requested(r, n),
+        opened(b, opened_by(r, n), value(e)),
+    )
 }
 
-fn opened_by_fetch(r: Fetch) -> u32 {
+fn opened_by_fetch(r: Fetch) -> u64 {
     match r {
         Fetch::Refused(n) => 0,
         Fetch::Held => 0,
@@ -162,101 +197,38 @@ fn opened_by_fetch(r: Fetch) -> u32 {
     }
 }
 
-pub fn fetch(words: &mut [u64], b: Book, time: u32, peer: u64, height: u32) -> Book
-    ensures { λ r. ⌜ (length (now (words .exit)) ≡ length (now (words .entry))) × (r .gone ≡ b .gone) ⌝ }
-{
-    let estimate = lines::line::estimate(words);
-    let h = hash_of(height);
-    let r = window::mark_owned_fetch(words, peer, h, height, false, ROOM, ROOM, clock_of(time));
-    begin(time, b"mark_owned_fetch", peer);
-    blocks(height, 1);
-    let w = lines::say::fetched(r);
-    finish(words, w, peer);
-    crate::book::opened(b, opened_by_fetch(r), estimate)
+fn fetch(words: &mut [u64], b: Book, s: Step) -> Outcome {
+    let e = window_queries::ewma_block_bytes(words);
+    let h = hash_of(s.first);
+    let clock = clock_of(s.time);
+    let r = window::mark_owned_fetch(words, s.peer, h, s.first, false, ROOM, ROOM, clock);
+    done(
+        lines::words::fetched(r),
+        opened(b, opened_by_fetch(r), value(e)),
+    )
 }
 
-// A body of that many bytes came from the peer.
-pub fn receive(words: &mut [u64], b: Book, time: u32, peer: u64, height: u32, bytes: u64) -> Book
-    ensures { λ r. ⌜ (length (now (words .exit)) ≡ length (now (words .entry))) × (r .blocks ≡ b .blocks) × (r .bytes ≡ b .bytes) ⌝ }
-{
-    let h = hash_of(height);
-    let l = lend::mark_received_from(words, h, bytes, Source::From(peer), clock_of(time));
+// A body of `other` bytes came from the peer.
+fn receive(words: &mut [u64], b: Book, s: Step) -> Outcome {
+    let h = hash_of(s.first);
+    let clock = clock_of(s.time);
+    let l = lend::mark_received_from(words, h, s.other, Source::From(s.peer), clock);
     let r = l.answer;
     let gone = l.gone;
-    let c = crate::book::counted(gone, l.places);
-    begin(time, b"mark_received_from", peer);
-    blocks(height, 1);
-    let w = lines::say::received(r, c.second);
-    finish(words, w, peer);
-    crate::book::let_go(b, c)
+    done(
+        lines::words::received(r, gone[17]),
+        booked(b, gone, l.places),
+    )
 }
 
 // A body from the peer proved to be wrong.
-pub fn reject(words: &mut [u64], b: Book, time: u32, peer: u64, height: u32) -> Book
-    ensures { λ r. ⌜ (length (now (words .exit)) ≡ length (now (words .entry))) × (r .blocks ≡ b .blocks) × (r .bytes ≡ b .bytes) ⌝ }
-{
-    let h = hash_of(height);
-    let l = lend::reject_delivery(words, h, Source::From(peer), clock_of(time));
+fn reject(words: &mut [u64], b: Book, s: Step) -> Outcome {
+    let h = hash_of(s.first);
+    let clock = clock_of(s.time);
+    let l = lend::reject_delivery(words, h, Source::From(s.peer), clock);
     let r = l.answer;
     let gone = l.gone;
-    let c = crate::book::counted(gone, l.places);
-    begin(time, b"reject_delivery", peer);
-    blocks(height, 1);
-    let w = lines::say::rejected(r);
-    finish(words, w, peer);
-    crate::book::let_go(b, c)
-}
-
-// The rest of a line whose call lets go, and the book after it.
-fn close(words: &[u64], b: Book, l: LetGoWords) -> Book
-    ensures { λ r. ⌜ (r .blocks ≡ b .blocks) × (r .bytes ≡ b .bytes) ⌝ }
-{
-    let r = l.answer;
-    let gone = l.gone;
-    let c = crate::book::counted(gone, l.places);
-    let w = lines::say::let_go(r, c.first);
-    finish_alone(words, w);
-    crate::book::let_go(b, c)
-}
-
-pub fn expire(words: &mut [u64], b: Book, time: u32) -> Book
-    ensures { λ r. ⌜ (length (now (words .exit)) ≡ length (now (words .entry))) × (r .blocks ≡ b .blocks) × (r .bytes ≡ b .bytes) ⌝ }
-{
-    let l = lend::expire_pending(words, clock_of(time));
-    begin_alone(time, b"expire_pending");
-    blocks(0, 0);
-    close(words, b, l)
-}
-
-// The peer says that it does not have the block.
-pub fn retry(words: &mut [u64], b: Book, time: u32, height: u32) -> Book
-    ensures { λ r. ⌜ (length (now (words .exit)) ≡ length (now (words .entry))) × (r .blocks ≡ b .blocks) × (r .bytes ≡ b .bytes) ⌝ }
-{
-    let h = hash_of(height);
-    let l = lend::requeue_for_retry(words, h, Height32::Known(height), clock_of(time));
-    begin_alone(time, b"requeue_for_retry");
-    blocks(height, 1);
-    close(words, b, l)
-}
-
-pub fn release(words: &mut [u64], b: Book, time: u32, height: u32) -> Book
-    ensures { λ r. ⌜ (length (now (words .exit)) ≡ length (now (words .entry))) × (r .blocks ≡ b .blocks) × (r .bytes ≡ b .bytes) ⌝ }
-{
-    let h = hash_of(height);
-    let l = lend::release_pending(words, h, clock_of(time));
-    begin_alone(time, b"release_pending");
-    blocks(height, 1);
-    close(words, b, l)
-}
-
-// Blocks below the height are no longer wanted.
-pub fn retire(words: &mut [u64], b: Book, time: u32, height: u32) -> Book
-    ensures { λ r. ⌜ (length (now (words .exit)) ≡ length (now (words .entry))) × (r .blocks ≡ b .blocks) × (r .bytes ≡ b .bytes) ⌝ }
-{
-    let l = lend::retire_before(words, height, clock_of(time));
-    begin_alone(time, b"retire_before");
-    blocks(height, 1);
-    close(words, b, l)
+    done(lines::words::rejected(r), booked(b, gone, l.places))
 }
 
 // Every seat is kept but the peer's.
@@ -268,79 +240,95 @@ fn all_but(peer: u64) -> [u64; 256] {
     l
 }
 
-pub fn drop_peer(words: &mut [u64], b: Book, time: u32, peer: u64) -> Book
-    ensures { λ r. ⌜ (length (now (words .exit)) ≡ length (now (words .entry))) × (r .blocks ≡ b .blocks) × (r .bytes ≡ b .bytes) ⌝ }
-{
+fn drop_peer(words: &mut [u64], peer: u64) -> LetGoWords {
     let flags = all_but(peer);
-    let l = lend::retain_owned_by(words, &flags);
-    begin(time, b"retain_owned_by (all but)", peer);
-    blocks(0, 0);
-    close(words, b, l)
+    lend::retain_owned_by(words, &flags)
 }
 
-// How the next block to apply is waited for, with so many blocks staged above it.
-pub fn look(words: &mut [u64], time: u32, next: u32, staged: u64)
-    ensures { λ _. ⌜ length (now (words .exit)) ≡ length (now (words .entry)) ⌝ }
-{
-    let h = hash_of(next);
-    let highest = height_after(next, 8);
+fn lets_go(words: &mut [u64], s: Step) -> LetGoWords {
+    let h = hash_of(s.first);
+    let clock = clock_of(s.time);
+    let call = s.call;
+    match call {
+        5 => lend::expire_pending(words, clock),
+        6 => lend::requeue_for_retry(words, h, Height32::Known(s.first), clock),
+        7 => lend::release_pending(words, h, clock),
+        8 => lend::retire_before(words, s.first, clock),
+        _ => drop_peer(words, s.peer),
+    }
+}
+
+fn let_go(words: &mut [u64], b: Book, s: Step) -> Outcome {
+    let l = lets_go(words, s);
+    let r = l.answer;
+    let gone = l.gone;
+    done(lines::words::let_go(r, gone[8]), booked(b, gone, l.places))
+}
+
+// How the block is waited for, with `other` blocks staged above it.
+fn look(words: &mut [u64], s: Step) -> Said {
+    let h = hash_of(s.first);
+    let highest = height_after(s.first, 8);
+    let clock = clock_of(s.time);
     let r = window::observe_blocked(
         words,
-        Height32::Known(next),
+        Height32::Known(s.first),
         Sought::Exactly(h),
         false,
-        staged,
+        s.other,
         Height32::Known(highest),
-        clock_of(time),
+        clock,
     );
-    begin_alone(time, b"observe_blocked");
-    blocks(next, 1);
-    let w = lines::say::blocked(r);
-    finish_alone(words, w);
+    lines::words::blocked(r)
 }
 
-pub fn hedge(words: &mut [u64], time: u32, owner: u64, alternate: u64, height: u32)
-    ensures { λ _. ⌜ length (now (words .exit)) ≡ length (now (words .entry)) ⌝ }
-{
-    let h = hash_of(height);
-    let r = window::confirm_cold_front_hedge(words, owner, alternate, h);
-    begin(time, b"confirm_cold_front_hedge", alternate);
-    blocks(height, 1);
-    let w = lines::say::accepted(r);
-    finish(words, w, alternate);
+// Each seat has a key of its own.
+fn keys() -> [u64; 256] {
+    let mut l: [u64; 256] = [0; 256];
+    let mut i: usize = 0;
+    while i < 256 {
+        l[i] = i as u64;
+        i += 1;
+    }
+    l
 }
 
-// Eight blocks of the owner's are asked of an alternate too.
-pub fn race(words: &mut [u64], time: u32, owner: u64, alternate: u64, first: u32)
-    ensures { λ _. ⌜ length (now (words .exit)) ≡ length (now (words .entry)) ⌝ }
-{
-    let hashes = hashes_from(first);
-    let alternates = [alternate];
-    let clock = clock_of(time);
-    let r = window::confirm_prefix_probe(words, owner, &hashes, &alternates, clock);
-    begin(time, b"confirm_prefix_probe", alternate);
-    blocks(first, 8);
-    let w = lines::say::accepted(r);
-    finish(words, w, alternate);
+// The calls that are done or refused. `other` is the owner of the blocks, or how many peers there are.
+fn changes(words: &mut [u64], s: Step) -> Accepted {
+    let h = hash_of(s.first);
+    let clock = clock_of(s.time);
+    let call = s.call;
+    match call {
+        11 => window::confirm_cold_front_hedge(words, s.other, s.peer, h),
+        12 => race(words, s, clock),
+        13 => window::set_fanout_eligible_peers(words, s.other, clock),
+        14 => window::clear_preferred_peer(words),
+        _ => open(words, clock),
+    }
 }
 
-pub fn fan_out(words: &mut [u64], time: u32, n: u64)
-    ensures { λ _. ⌜ length (now (words .exit)) ≡ length (now (words .entry)) ⌝ }
-{
-    let r = window::set_fanout_eligible_peers(words, n, clock_of(time));
-    begin_alone(time, b"set_fanout_eligible_peers");
-    blocks(0, 0);
-    let w = lines::say::accepted(r);
-    finish_alone(words, w);
+fn open(words: &mut [u64], clock: u64) -> Accepted {
+    let l = keys();
+    let s = settings();
+    window::open(words, s, &l, clock)
 }
 
-// The peer that won a race is asked first no longer.
-pub fn clear_preferred(words: &mut [u64], time: u32)
-    ensures { λ _. ⌜ length (now (words .exit)) ≡ length (now (words .entry)) ⌝ }
-{
-    let r = window::clear_preferred_peer(words);
-    begin_alone(time, b"clear_preferred_peer");
-    blocks(0, 0);
-    let w = lines::say::accepted(r);
-    finish_alone(words, w);
+// Eight blocks of the owner's are asked of the peer too.
+fn race(words: &mut [u64], s: Step, clock: u64) -> Accepted {
+    let hashes = hashes_from(s.first);
+    let alternates = [s.peer];
+    window::confirm_prefix_probe(words, s.other, &hashes, &alternates, clock)
+}
+
+pub(crate) fn act(words: &mut [u64], b: Book, s: Step) -> Outcome {
+    let call = s.call;
+    match call {
+        1 => ask(words, b, s),
+        2 => fetch(words, b, s),
+        3 => receive(words, b, s),
+        4 => reject(words, b, s),
+        10 => done(look(words, s), b),
+        5..=9 => let_go(words, b, s),
+        _ => done(lines::words::accepted(changes(words, s)), b),
+    }
 }

@@ -1,176 +1,268 @@
-// The window at work: a scripted dozen of peers, one line a call, and the book at the end. Times are tenths of a second.
-mod book;
+// A node catches up through twelve peers: a script of calls, one line each, and the book at the end.
+ghost use Prim.Native.Nat.{_<_};
+
 mod host;
-mod ledger;
 
-use book::Book;
-use host::ask;
-use host::drop_peer;
-use host::expire;
-use host::fetch;
-use host::look;
-use host::receive;
-use host::reject;
-use lines::line::title;
+use host::Book;
+use host::Step;
+use host::act;
+use lines::After;
+use lines::Call;
+use lines::Said;
+use model::Number;
 
-// ---- two races
+// ---- the script
 
-fn slow_first_block(words: &mut [u64], b: Book) -> Book {
-    title(
-        b"Peer 1 is slow with block 1, so peer 2 is asked for it too. Peer 2 is first: peer 1 loses the race, and block 2 with it.",
+// A title, by its number.
+const TITLE: usize = 99;
+
+// Which call (by its place in lines::words) or TITLE; tenths of a second, or the title; the peer; the first block and how many; and one number more:
+// the body's bytes, the owner of the blocks, how many blocks are staged, or how many peers there are.
+const STEPS: [[u64; 6]; 66] = [
+    [99, 0, 0, 0, 0, 0],
+    [0, 0, 0, 0, 0, 0],
+    [1, 0, 1, 1, 2, 0],
+    [10, 1, 0, 1, 1, 0],
+    [10, 21, 0, 1, 1, 0],
+    [11, 21, 2, 1, 1, 1],
+    [3, 23, 2, 1, 1, 250000],
+    [14, 23, 0, 0, 0, 0],
+    [99, 1, 0, 0, 0, 0],
+    [1, 24, 3, 2, 8, 0],
+    [12, 24, 2, 2, 8, 3],
+    [3, 26, 2, 2, 1, 260000],
+    [3, 27, 2, 3, 1, 270000],
+    [3, 28, 2, 4, 1, 280000],
+    [3, 29, 2, 5, 1, 290000],
+    [99, 2, 0, 0, 0, 0],
+    [13, 30, 0, 0, 0, 12],
+    [1, 31, 2, 6, 2, 0],
+    [1, 31, 4, 8, 2, 0],
+    [1, 31, 5, 10, 2, 0],
+    [1, 31, 6, 12, 2, 0],
+    [1, 31, 7, 14, 2, 0],
+    [1, 31, 8, 16, 2, 0],
+    [1, 31, 9, 18, 2, 0],
+    [1, 32, 10, 20, 2, 0],
+    [1, 32, 11, 22, 2, 0],
+    [1, 32, 12, 24, 2, 0],
+    [99, 3, 0, 0, 0, 0],
+    [1, 33, 300, 26, 2, 0],
+    [1, 33, 11, 21, 1, 0],
+    [1, 10, 2, 26, 2, 0],
+    [99, 4, 0, 0, 0, 0],
+    [3, 40, 2, 6, 1, 300000],
+    [3, 41, 5, 10, 1, 310000],
+    [3, 42, 2, 7, 1, 320000],
+    [3, 43, 6, 12, 1, 310000],
+    [3, 44, 9, 19, 1, 330000],
+    [3, 45, 10, 20, 1, 300000],
+    [3, 46, 10, 21, 1, 305000],
+    [99, 5, 0, 0, 0, 0],
+    [6, 47, 0, 11, 1, 0],
+    [4, 48, 7, 14, 1, 0],
+    [4, 48, 7, 16, 1, 0],
+    [99, 6, 0, 0, 0, 0],
+    [9, 50, 8, 0, 0, 0],
+    [99, 7, 0, 0, 0, 0],
+    [10, 51, 0, 8, 1, 200],
+    [10, 61, 0, 8, 1, 200],
+    [10, 72, 0, 8, 1, 200],
+    [9, 73, 4, 0, 0, 0],
+    [99, 8, 0, 0, 0, 0],
+    [5, 74, 0, 0, 0, 0],
+    [1, 75, 2, 8, 2, 0],
+    [2, 75, 10, 11, 1, 0],
+    [2, 75, 10, 14, 1, 0],
+    [2, 76, 2, 11, 1, 0],
+    [1, 76, 11, 16, 3, 0],
+    [3, 80, 2, 8, 1, 300000],
+    [3, 81, 2, 9, 1, 300000],
+    [99, 9, 0, 0, 0, 0],
+    [7, 82, 0, 22, 1, 0],
+    [8, 83, 0, 14, 1, 0],
+    [3, 84, 7, 15, 1, 290000],
+    [99, 10, 0, 0, 0, 0],
+    [5, 18000, 0, 0, 0, 0],
+    [1, 18001, 2, 14, 4, 0],
+];
+
+fn put(s: &[u8]) {
+    io::write_all(1, s);
+}
+
+fn put_first(l: [u8; 81], n: usize) {
+    if n <= 81 {
+        put(&l[..n]);
+    }
+}
+
+fn title(n: u64) {
+    match n {
+        0 => put(
+            b"\nPeer 1 is slow with block 1, so peer 2 is asked for it too, and is first.\nPeer 1 loses the race, and block 2 with it.\n",
+        ),
+        1 => put(
+            b"\nPeer 3 is asked for eight blocks, and peer 2 races it. Four blocks decide:\npeer 3 loses, and its other four are let go.\n",
+        ),
+        2 => put(
+            b"\nTwelve peers are there. All but the two losers are asked for two blocks each.\n",
+        ),
+        3 => put(b"\nThree calls that make no sense are refused, and change nothing.\n"),
+        4 => put(b"\nBlocks come in. Peer 6 leaves out block 13, and peer 9 block 18.\n"),
+        5 => put(
+            b"\nPeer 5 does not have block 11. Peer 7 sends a wrong block 14, and a wrong\nblock 16, for which nobody asked it.\n",
+        ),
+        6 => put(b"\nPeer 8 hangs up. All seats but its own are kept.\n"),
+        7 => put(
+            b"\nPeer 4 stalls: the chain waits for its block 8, with 200 blocks staged above.\nAfter two seconds it is blamed, and dropped.\n",
+        ),
+        8 => put(b"\nWhat peers skipped is swept. What was let go is asked for again.\n"),
+        9 => put(b"\nBlock 22 came by another way, and blocks below 14 are no longer wanted.\n"),
+        _ => put(
+            b"\nHalf an hour later those who never answered have timed out. Peer 2 is asked\nfor the next blocks.\n",
+        ),
+    }
+}
+
+fn step_at(k: usize) -> Step
+    requires { ⌜ k < 66 ⌝ }
+{
+    let r = STEPS[k];
+    Step {
+        time: r[1],
+        call: r[0] as usize,
+        peer: r[2],
+        first: (r[3] % 4_294_967_296) as u32,
+        count: r[4],
+        other: r[5],
+    }
+}
+
+// ---- one line a call
+
+fn value(n: Number) -> u64 {
+    match n {
+        Number::Refused(k) => 0,
+        Number::Is(x) => x,
+    }
+}
+
+fn call_of(s: Step) -> Call {
+    let first = s.first as u64;
+    let count = s.count;
+    let mut last = first;
+    if count > 0 {
+        last = first + (count - 1) % 256;
+    }
+    Call {
+        time: s.time,
+        name: s.call,
+        peered: s.peer != 0,
+        peer: s.peer,
+        blocks: count > 0,
+        first,
+        ranged: count > 1,
+        last,
+    }
+}
+
+fn after(words: &[u64], peer: u64) -> After {
+    let pending = value(window_queries::pending_len(words));
+    let bytes = value(window_queries::pending_bytes(words));
+    let share = value(window_queries::pending_count_for(words, peer));
+    After {
+        pending,
+        bytes,
+        share,
+    }
+}
+
+fn show(words: &[u64], s: Step, said: Said) {
+    let a = after(words, s.peer);
+    let l = lines::rows::row(call_of(s), said, a);
+    put(&l);
+}
+
+fn turn(words: &mut [u64], b: Book, k: usize) -> Book
+    requires { ⌜ k < 66 ⌝ }
+{
+    let s = step_at(k);
+    if s.call == TITLE {
+        title(s.time);
+        return b;
+    }
+    let d = act(words, b, s);
+    show(words, s, d.said);
+    d.book
+}
+
+fn play(words: &mut [u64], b: Book) -> Book {
+    let mut book = b;
+    let mut k: usize = 0;
+    while k < 66 {
+        book = turn(words, book, k);
+        k += 1;
+    }
+    book
+}
+
+// ---- the book at the end, and whether it adds up with what the window says
+
+fn entry(k: usize, blocks: u64, bytes: u64) {
+    let l = lines::rows::entry(k, blocks, bytes);
+    put_first(l, 54);
+}
+
+fn by_reasons(blocks: [u64; 11], bytes: [u64; 11]) {
+    let mut i: usize = 1;
+    while i < 11 {
+        entry(i, blocks[i], bytes[i]);
+        i += 1;
+    }
+}
+
+fn close(words: &[u64], b: Book) {
+    let l = b.gone;
+    let m = b.gone_bytes;
+    let gone = ledger::sum(l);
+    let gone_bytes = ledger::sum(m);
+    let a = after(words, 0);
+    put(b"\nThe book                           blocks       bytes\n");
+    entry(0, b.blocks, b.bytes);
+    by_reasons(l, m);
+    entry(11, gone, gone_bytes);
+    entry(12, a.pending, a.bytes);
+    let right = ledger::balanced(b.blocks, gone, a.pending, b.bytes, gone_bytes, a.bytes);
+    let v = lines::words::verdict(right);
+    put(&v);
+}
+
+fn empty() -> Book {
+    Book {
+        blocks: 0,
+        bytes: 0,
+        gone: [0; 11],
+        gone_bytes: [0; 11],
+    }
+}
+
+fn blank() -> [u64; 4096] {
+    [0; 4096]
+}
+
+fn run(words: &mut [u64]) {
+    put(
+        b"A node catches up from block 1 through twelve peers. One line a call: the call,\nthe first and the last block that it is about, its answer, and what is pending\nafter it.\n\n",
     );
-    host::open(words, 0);
-    let b = ask(words, b, 0, 1, 1, 2);
-    look(words, 1, 1, 0);
-    look(words, 21, 1, 0);
-    b
-}
-
-fn hedge_lost(words: &mut [u64], b: Book) -> Book {
-    host::hedge(words, 21, 1, 2, 1);
-    let b = receive(words, b, 23, 2, 1, 250_000);
-    host::clear_preferred(words, 23);
-    b
-}
-
-fn prefix_race(words: &mut [u64], b: Book) -> Book {
-    title(
-        b"Peer 3 is asked for eight blocks, and peer 2 races it. Four blocks decide: peer 3 loses, and its other four are let go.",
+    put(
+        b"                                    blocks             blocks pending:   pending\n second call                    peer       answer      this peer's all     bytes\n",
     );
-    let b = ask(words, b, 24, 3, 2, 8);
-    host::race(words, 24, 3, 2, 2);
-    b
-}
-
-fn prefix_race_lost(words: &mut [u64], b: Book) -> Book {
-    let b = receive(words, b, 26, 2, 2, 260_000);
-    let b = receive(words, b, 27, 2, 3, 270_000);
-    let b = receive(words, b, 28, 2, 4, 280_000);
-    receive(words, b, 29, 2, 5, 290_000)
-}
-
-// ---- twelve peers
-
-fn fan_out(words: &mut [u64], b: Book) -> Book {
-    title(b"Twelve peers are there. All but the two losers are asked for two blocks each.");
-    host::fan_out(words, 30, 12);
-    let b = ask(words, b, 31, 2, 6, 2);
-    let b = ask(words, b, 31, 4, 8, 2);
-    ask(words, b, 31, 5, 10, 2)
-}
-
-fn fan_on(words: &mut [u64], b: Book) -> Book {
-    let b = ask(words, b, 31, 6, 12, 2);
-    let b = ask(words, b, 31, 7, 14, 2);
-    let b = ask(words, b, 31, 8, 16, 2);
-    ask(words, b, 31, 9, 18, 2)
-}
-
-fn fan_to_the_last(words: &mut [u64], b: Book) -> Book {
-    let b = ask(words, b, 32, 10, 20, 2);
-    let b = ask(words, b, 32, 11, 22, 2);
-    ask(words, b, 32, 12, 24, 2)
-}
-
-fn senseless_calls(words: &mut [u64], b: Book) -> Book {
-    title(b"Three calls that make no sense are refused, and change nothing.");
-    let b = ask(words, b, 33, 300, 26, 2);
-    let b = ask(words, b, 33, 11, 21, 1);
-    ask(words, b, 10, 2, 26, 2)
-}
-
-// ---- what peers do
-
-fn deliver(words: &mut [u64], b: Book) -> Book {
-    title(b"Blocks come in. Peer 6 leaves out block 13, and peer 9 block 18.");
-    let b = receive(words, b, 40, 2, 6, 300_000);
-    let b = receive(words, b, 41, 5, 10, 310_000);
-    let b = receive(words, b, 42, 2, 7, 320_000);
-    receive(words, b, 43, 6, 12, 310_000)
-}
-
-fn deliver_more(words: &mut [u64], b: Book) -> Book {
-    let b = receive(words, b, 44, 9, 19, 330_000);
-    let b = receive(words, b, 45, 10, 20, 300_000);
-    receive(words, b, 46, 10, 21, 305_000)
-}
-
-fn refuse(words: &mut [u64], b: Book) -> Book {
-    title(
-        b"Peer 5 refuses block 11. Peer 7 sends a wrong block 14, and a wrong block 16, for which nobody asked it.",
-    );
-    let b = host::retry(words, b, 47, 11);
-    let b = reject(words, b, 48, 7, 14);
-    reject(words, b, 48, 7, 16)
-}
-
-fn hang_up(words: &mut [u64], b: Book) -> Book {
-    title(b"Peer 8 hangs up. All seats but its own are kept.");
-    drop_peer(words, b, 50, 8)
-}
-
-fn stall(words: &mut [u64], b: Book) -> Book {
-    title(
-        b"Peer 4 stalls: the chain waits for its block 8, with 200 blocks staged above. After two seconds it is blamed, and dropped.",
-    );
-    look(words, 51, 8, 200);
-    look(words, 61, 8, 200);
-    look(words, 72, 8, 200);
-    drop_peer(words, b, 73, 4)
-}
-
-// ---- catching up
-
-fn ask_again(words: &mut [u64], b: Book) -> Book {
-    title(b"What peers passed over is swept. What was let go is asked for again.");
-    let b = expire(words, b, 74);
-    let b = ask(words, b, 75, 2, 8, 2);
-    let b = fetch(words, b, 75, 10, 11);
-    fetch(words, b, 75, 10, 14)
-}
-
-fn come_in(words: &mut [u64], b: Book) -> Book {
-    let b = fetch(words, b, 76, 2, 11);
-    let b = ask(words, b, 76, 11, 16, 3);
-    let b = receive(words, b, 80, 2, 8, 300_000);
-    receive(words, b, 81, 2, 9, 300_000)
-}
-
-fn other_ways(words: &mut [u64], b: Book) -> Book {
-    title(b"Block 22 came by another way, and blocks below 14 are no longer wanted.");
-    let b = host::release(words, b, 82, 22);
-    let b = host::retire(words, b, 83, 14);
-    receive(words, b, 84, 7, 15, 290_000)
-}
-
-fn much_later(words: &mut [u64], b: Book) -> Book {
-    title(
-        b"Half an hour later those who never answered have timed out. Peer 2 is asked for the next blocks.",
-    );
-    let b = expire(words, b, 18_000);
-    ask(words, b, 18_001, 2, 14, 4)
+    let b = play(words, empty());
+    close(words, b);
 }
 
 fn main() {
-    let mut words: [u64; 4096] = [0; 4096];
-    lines::line::heading();
-    let b = book::empty();
-    let b = slow_first_block(&mut words, b);
-    let b = hedge_lost(&mut words, b);
-    let b = prefix_race(&mut words, b);
-    let b = prefix_race_lost(&mut words, b);
-    let b = fan_out(&mut words, b);
-    let b = fan_on(&mut words, b);
-    let b = fan_to_the_last(&mut words, b);
-    let b = senseless_calls(&mut words, b);
-    let b = deliver(&mut words, b);
-    let b = deliver_more(&mut words, b);
-    let b = refuse(&mut words, b);
-    let b = hang_up(&mut words, b);
-    let b = stall(&mut words, b);
-    let b = ask_again(&mut words, b);
-    let b = come_in(&mut words, b);
-    let b = other_ways(&mut words, b);
-    let b = much_later(&mut words, b);
-    ledger::show(&words, b);
+    let mut words = blank();
+    run(&mut words);
 }

@@ -1,1 +1,3 @@
-pub mod Number
+pub mod Cells
+pub mod Words
+pub mod Rows

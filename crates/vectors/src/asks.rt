@@ -1,161 +1,87 @@
-// The queries by their numbers in crates/kofudile/API.md; 49 asks for the hashes of the plan, 48 for its numbers. None has a report, so none differs in it.
-ghost use Prim.Native.Nat.{_+_, _%_, _^_};
-ghost use mathlib.Core.Path.{_≡_};
-ghost use mathlib.Core.Bool.{true};
-ghost use lib.ListN.{getD};
+// The queries by their numbers in crates/kofudile/API.md; 49 asks for the hashes of the plan, 48 for its numbers. One call in each arm, and what they say is
+// made a row after it.
 use crate::said;
-use crate::said::Said;
-use crate::stream::get;
-use crate::stream::on;
-use model::Hash;
+use crate::stream::Args;
+use model::Number;
+use model::Pair;
+use model::Perhaps;
+use model::PerhapsPair;
+use model::Truth;
 
-pub fn hash_at(numbers: &[u64], at: u64) -> Hash
-    ensures { λ r. ⌜
-        (r .a ≡ getD (now (numbers .entry)) at 0)
-        × (r .b ≡ getD (now (numbers .entry)) ((at + 1) % 2 ^ 64) 0)
-        × (r .c ≡ getD (now (numbers .entry)) ((at + 2) % 2 ^ 64) 0)
-        × (r .d ≡ getD (now (numbers .entry)) ((at + 3) % 2 ^ 64) 0)
-        ⌝ }
-{
-    Hash {
-        a: get(numbers, at),
-        b: get(numbers, on(at, 1)),
-        c: get(numbers, on(at, 2)),
-        d: get(numbers, on(at, 3)),
-    }
-}
-
-fn low_number(words: &[u64], kind: u64) -> Said
-    ensures { λ r. ⌜ r .reported ≡ true ⌝ }
-{
+fn number(words: &[u64], kind: u64, a: Args) -> Number {
     match kind {
-        19 => said::number(flat::of_number(window_queries::pending_len(words))),
-        20 => said::number(flat::of_number(window_queries::pending_bytes(words))),
-        21 => said::number(flat::of_number(window_queries::effective_peer_inflight(words))),
-        22 => said::number(flat::of_number(window_queries::active_downloading_peers(words))),
-        23 => said::number(flat::of_number(window_queries::stall_decay_floor(words))),
-        24 => said::number(flat::of_number(window_queries::request_cursor(words))),
-        _ => said::number(flat::of_number(window_queries::ewma_block_bytes(words))),
+        19 => window_queries::pending_len(words),
+        20 => window_queries::pending_bytes(words),
+        21 => window_queries::effective_peer_inflight(words),
+        22 => window_queries::active_downloading_peers(words),
+        23 => window_queries::stall_decay_floor(words),
+        24 => window_queries::request_cursor(words),
+        25 => window_queries::ewma_block_bytes(words),
+        26 => window_queries::effective_owner_timeout(words),
+        27 => window_queries::stall_timeout(words),
+        28 => window_queries::max_pending_blocks(words),
+        29 => window_queries::min_peers_for_fanout(words),
+        _ => window_queries::pending_count_for(words, a.a),
     }
 }
 
-fn high_number(words: &[u64], kind: u64) -> Said
-    ensures { λ r. ⌜ r .reported ≡ true ⌝ }
-{
+fn truth(words: &[u64], kind: u64, a: Args) -> Truth {
+    let h = a.hash0;
+    let k = a.hash1;
     match kind {
-        26 => said::number(flat::of_number(window_queries::effective_owner_timeout(words))),
-        27 => said::number(flat::of_number(window_queries::stall_timeout(words))),
-        28 => said::number(flat::of_number(window_queries::max_pending_blocks(words))),
-        29 => said::number(flat::of_number(window_queries::min_peers_for_fanout(words))),
-        _ => said::number(flat::of_truth(window_queries::fanout_active(words))),
+        30 => window_queries::fanout_active(words),
+        31 => window_queries::has_request_capacity(words, a.a, a.b),
+        33 => window_queries::is_downloading(words, a.a),
+        34 => window_queries::contains_pending(words, h),
+        35 => window_queries::hedge_offered(words, a.a, k),
+        36 => window_queries::probe_offered(words, a.a, k),
+        37 => window_queries::peer_has_expired_pending(words, a.a, a.b),
+        _ => window_queries::peer_in_staller_cooldown(words, a.a, a.b),
     }
 }
 
-fn seated(words: &[u64], numbers: &[u64], kind: u64, at: u64) -> Said
-    ensures { λ r. ⌜ r .reported ≡ true ⌝ }
-{
-    let seat = get(numbers, at);
+fn pair(words: &[u64], kind: u64, a: Args) -> Pair {
     match kind {
-        31 => said::number(flat::of_truth(window_queries::has_request_capacity(
-            words,
-            seat,
-            get(numbers, on(at, 1)),
-        ))),
-        32 => said::number(flat::of_number(window_queries::pending_count_for(words, seat))),
-        33 => said::number(flat::of_truth(window_queries::is_downloading(words, seat))),
-        34 => said::number(flat::of_truth(window_queries::contains_pending(
-            words,
-            hash_at(numbers, at),
-        ))),
-        35 => said::number(flat::of_truth(window_queries::hedge_offered(
-            words,
-            seat,
-            hash_at(numbers, on(at, 1)),
-        ))),
-        36 => said::number(flat::of_truth(window_queries::probe_offered(
-            words,
-            seat,
-            hash_at(numbers, on(at, 1)),
-        ))),
-        37 => said::number(flat::of_truth(window_queries::peer_has_expired_pending(
-            words,
-            seat,
-            get(numbers, on(at, 1)),
-        ))),
-        _ => said::number(flat::of_truth(window_queries::peer_in_staller_cooldown(
-            words,
-            seat,
-            get(numbers, on(at, 1)),
-        ))),
+        39 => window_queries::pending_high_water(words),
+        _ => window_queries::expired_pending_capacity(words, a.a),
     }
 }
 
-fn two(words: &[u64], numbers: &[u64], kind: u64, at: u64) -> Said
-    ensures { λ r. ⌜ r .reported ≡ true ⌝ }
-{
-    let a = get(numbers, at);
+fn perhaps_pair(words: &[u64], kind: u64, a: Args) -> PerhapsPair {
     match kind {
-        39 => said::pair(flat::of_pair(window_queries::pending_high_water(words))),
-        40 => said::pair(flat::of_pair(window_queries::expired_pending_capacity(words, a))),
-        41 => said::perhaps_pair(flat::of_perhaps_pair(window_queries::stalling_peer(words))),
-        _ => said::perhaps_pair(flat::of_perhaps_pair(window_queries::compute_request_capacity(
-            words,
-            a,
-            get(numbers, on(at, 1)),
-            get(numbers, on(at, 2)),
-        ))),
+        41 => window_queries::stalling_peer(words),
+        _ => window_queries::compute_request_capacity(words, a.a, a.b, a.c),
     }
 }
 
-fn missing(words: &[u64], numbers: &[u64], kind: u64, at: u64) -> Said
-    ensures { λ r. ⌜ r .reported ≡ true ⌝ }
-{
+fn perhaps(words: &[u64], kind: u64, a: Args) -> Perhaps {
+    let h = a.hash0;
     match kind {
-        43 => said::perhaps(flat::of_perhaps(window_queries::preferred_peer(words))),
-        44 => said::perhaps(flat::of_perhaps(window_queries::pending_owner(
-            words,
-            hash_at(numbers, at),
-        ))),
-        45 => said::perhaps(flat::of_perhaps(window_queries::owner_queue_start(
-            words,
-            get(numbers, at),
-        ))),
-        46 => said::perhaps(flat::of_perhaps(window_queries::front_interval_ewma_ms(words))),
-        _ => said::perhaps(flat::of_perhaps(window_queries::active_prefix_probe_started_at(words))),
+        43 => window_queries::preferred_peer(words),
+        44 => window_queries::pending_owner(words, h),
+        45 => window_queries::owner_queue_start(words, a.a),
+        46 => window_queries::front_interval_ewma_ms(words),
+        _ => window_queries::active_prefix_probe_started_at(words),
     }
 }
 
-fn hashes(words: &[u64]) -> Said
-    ensures { λ r. ⌜ r .reported ≡ true ⌝ }
-{
+// A plan's numbers, or its hashes.
+fn plan(words: &[u64], kind: u64) -> [u64; 32] {
     let f = flat::of_plan(window_queries::prefix_probe_plan(words));
-    let row = f.hashes;
-    Said {
-        fields: row,
-        reported: true,
+    if kind == 48 {
+        return said::plan(f);
     }
+    f.hashes
 }
 
-pub fn query(words: &[u64], numbers: &[u64], kind: u64, at: u64) -> Said
-    ensures { λ r. ⌜ r .reported ≡ true ⌝ }
-{
-    if kind < 26 {
-        return low_number(words, kind);
+pub(crate) fn query(words: &[u64], kind: u64, a: Args) -> [u64; 32] {
+    match kind {
+        19..=29 => said::number(flat::of_number(number(words, kind, a))),
+        32 => said::number(flat::of_number(number(words, kind, a))),
+        30..=38 => said::number(flat::of_truth(truth(words, kind, a))),
+        39..=40 => said::pair(flat::of_pair(pair(words, kind, a))),
+        41..=42 => said::perhaps_pair(flat::of_perhaps_pair(perhaps_pair(words, kind, a))),
+        43..=47 => said::perhaps(flat::of_perhaps(perhaps(words, kind, a))),
+        _ => plan(words, kind),
     }
-    if kind < 31 {
-        return high_number(words, kind);
-    }
-    if kind < 39 {
-        return seated(words, numbers, kind, at);
-    }
-    if kind < 43 {
-        return two(words, numbers, kind, at);
-    }
-    if kind < 48 {
-        return missing(words, numbers, kind, at);
-    }
-    if kind == 48 {
-        return said::plan(flat::of_plan(window_queries::prefix_probe_plan(words)));
-    }
-    hashes(words)
 }

@@ -1,6 +1,5 @@
-// What a call said: its fields as crates/flat has them, and whether the report was the recorded one.
+// What a call said: its fields as crates/flat has them, how many places of its report it filled, and the report.
 ghost use mathlib.Core.Path.{_≡_};
-ghost use mathlib.Core.Bool.{true};
 ghost use Rattle.vectors.specs.Said.{row, long-row};
 use flat::FlatBlocked;
 use flat::FlatGone;
@@ -12,13 +11,36 @@ use flat::FlatPlan;
 use flat::FlatReceived;
 use flat::FlatRejected;
 
-pub struct Said {
+pub(crate) struct Said {
     pub fields: [u64; 32],
-    pub reported: bool,
+    pub places: usize,
+    pub gone: [u64; 2304],
 }
 
-pub fn of_fields(a: u64, b: u64, c: u64, d: u64, e: u64) -> Said
-    ensures { λ r. ⌜ (r .fields ≡ row a b c d e) × (r .reported ≡ true) ⌝ }
+fn no_report() -> [u64; 2304] {
+    [0; 2304]
+}
+
+// Of a call without a report.
+pub(crate) fn alone(fields: [u64; 32]) -> Said {
+    let gone = no_report();
+    Said {
+        fields,
+        places: 0,
+        gone,
+    }
+}
+
+pub(crate) fn with_report(fields: [u64; 32], places: usize, gone: [u64; 2304]) -> Said {
+    Said {
+        fields,
+        places,
+        gone,
+    }
+}
+
+fn of_fields(a: u64, b: u64, c: u64, d: u64, e: u64) -> [u64; 32]
+    ensures { λ r. ⌜ r ≡ row a b c d e ⌝ }
 {
     let mut fields: [u64; 32] = [0; 32];
     fields[0] = a;
@@ -26,78 +48,65 @@ pub fn of_fields(a: u64, b: u64, c: u64, d: u64, e: u64) -> Said
     fields[2] = c;
     fields[3] = d;
     fields[4] = e;
-    Said {
-        fields: fields,
-        reported: true,
-    }
+    fields
 }
 
-pub fn with_report(s: Said, same: bool) -> Said
-    ensures { λ r. ⌜ (r .fields ≡ s .fields) × (r .reported ≡ same) ⌝ }
-{
-    let fields = s.fields;
-    Said {
-        fields: fields,
-        reported: same,
-    }
-}
-
-pub fn done(n: u64) -> Said
-    ensures { λ r. ⌜ (r .fields ≡ row n 0 0 0 0) × (r .reported ≡ true) ⌝ }
+pub(crate) fn done(n: u64) -> [u64; 32]
+    ensures { λ r. ⌜ r ≡ row n 0 0 0 0 ⌝ }
 {
     of_fields(n, 0, 0, 0, 0)
 }
 
-pub fn number(f: FlatNumber) -> Said
-    ensures { λ r. ⌜ (r .fields ≡ row (f .refused) (f .value) 0 0 0) × (r .reported ≡ true) ⌝ }
+pub(crate) fn number(f: FlatNumber) -> [u64; 32]
+    ensures { λ r. ⌜ r ≡ row (f .refused) (f .value) 0 0 0 ⌝ }
 {
     of_fields(f.refused, f.value, 0, 0, 0)
 }
 
-pub fn pair(f: FlatPair) -> Said
-    ensures { λ r. ⌜ (r .fields ≡ row (f .refused) (f .first) (f .second) 0 0) × (r .reported ≡ true) ⌝ }
+pub(crate) fn pair(f: FlatPair) -> [u64; 32]
+    ensures { λ r. ⌜ r ≡ row (f .refused) (f .first) (f .second) 0 0 ⌝ }
 {
     of_fields(f.refused, f.first, f.second, 0, 0)
 }
 
-pub fn perhaps(f: FlatPerhaps) -> Said
-    ensures { λ r. ⌜ (r .fields ≡ row (f .refused) (f .present) (f .value) 0 0) × (r .reported ≡ true) ⌝ }
+pub(crate) fn perhaps(f: FlatPerhaps) -> [u64; 32]
+    ensures { λ r. ⌜ r ≡ row (f .refused) (f .present) (f .value) 0 0 ⌝ }
 {
     of_fields(f.refused, f.present, f.value, 0, 0)
 }
 
-pub fn perhaps_pair(f: FlatPerhapsPair) -> Said
-    ensures { λ r. ⌜ (r .fields ≡ row (f .refused) (f .present) (f .first) (f .second) 0) × (r .reported ≡ true) ⌝ }
+pub(crate) fn perhaps_pair(f: FlatPerhapsPair) -> [u64; 32]
+    ensures { λ r. ⌜ r ≡ row (f .refused) (f .present) (f .first) (f .second) 0 ⌝ }
 {
     of_fields(f.refused, f.present, f.first, f.second, 0)
 }
 
-pub fn gone(f: FlatGone) -> Said
-    ensures { λ r. ⌜ (r .fields ≡ row (f .refused) (f .places) 0 0 0) × (r .reported ≡ true) ⌝ }
+pub(crate) fn gone(f: FlatGone) -> [u64; 32]
+    ensures { λ r. ⌜ r ≡ row (f .refused) (f .places) 0 0 0 ⌝ }
 {
     of_fields(f.refused, f.places, 0, 0, 0)
 }
 
-pub fn received(f: FlatReceived) -> Said
-    ensures { λ r. ⌜ (r .fields ≡ row (f .refused) (f .places) (f .present) (f .height) 0) × (r .reported ≡ true) ⌝ }
+pub(crate) fn received(f: FlatReceived) -> [u64; 32]
+    ensures { λ r. ⌜ r ≡ row (f .refused) (f .places) (f .present) (f .height) 0 ⌝ }
 {
     of_fields(f.refused, f.places, f.present, f.height, 0)
 }
 
-pub fn rejected(f: FlatRejected) -> Said
-    ensures { λ r. ⌜ (r .fields ≡ row (f .refused) (f .places) (f .released) 0 0) × (r .reported ≡ true) ⌝ }
+pub(crate) fn rejected(f: FlatRejected) -> [u64; 32]
+    ensures { λ r. ⌜ r ≡ row (f .refused) (f .places) (f .released) 0 0 ⌝ }
 {
     of_fields(f.refused, f.places, f.released, 0, 0)
 }
 
-pub fn plan(f: FlatPlan) -> Said
-    ensures { λ r. ⌜ (r .fields ≡ row (f .refused) (f .present) (f .owner) (f .count) (f .«end_height»)) × (r .reported ≡ true) ⌝ }
+pub(crate) fn plan(f: FlatPlan) -> [u64; 32]
+    ensures { λ r. ⌜ r ≡ row (f .refused) (f .present) (f .owner) (f .count) (f .«end_height») ⌝ }
 {
     of_fields(f.refused, f.present, f.owner, f.count, f.end_height)
 }
 
-pub fn blocked(f: FlatBlocked) -> Said
-    ensures { λ r. ⌜ (r .fields ≡ long-row (f .refused) (f .decision) (f .owner) (f .height) (f .suppressed) (f .hash)) × (r .reported ≡ true) ⌝ }
+pub(crate) fn blocked(f: FlatBlocked) -> [u64; 32]
+    ensures { λ r. ⌜ r ≡ long-row (f .refused) (f .decision) (f .owner) (f .height) (f .suppressed) (f .hash) ⌝ }
 {
     let h = f.hash;
     let mut fields: [u64; 32] = [0; 32];
@@ -110,8 +119,5 @@ pub fn blocked(f: FlatBlocked) -> Said
     fields[6] = h.b;
     fields[7] = h.c;
     fields[8] = h.d;
-    Said {
-        fields: fields,
-        reported: true,
-    }
+    fields
 }

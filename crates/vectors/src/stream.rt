@@ -1,8 +1,9 @@
 // The recorded numbers: each is how many bytes it has, and its bytes, the highest first.
-ghost use Prim.Native.Nat.{_+_, _%_, _^_, _≤_};
+ghost use Prim.Native.Nat.{_+_, _%_, _^_, _≤_, _<_};
 ghost use mathlib.Core.Path.{_≡_};
 ghost use lib.ListN.{length, getD};
-ghost use Rattle.vectors.specs.Same.{same-from, same-rows};
+ghost use Rattle.vectors.specs.Same.{skips, same-part, same-rows};
+use model::Hash;
 
 // How many bytes a number still lacks after one more byte: a first one says how many.
 fn left_after(left: u64, b: u64) -> u64 {
@@ -24,7 +25,7 @@ fn wide(b: u8) -> u64 {
 }
 
 // Reads the bytes' numbers into `out`, and says how many there are.
-pub fn read_numbers(bytes: &[u8], out: &mut [u64]) -> usize
+pub(crate) fn read_numbers(bytes: &[u8], out: &mut [u64]) -> usize
     ensures { λ r. ⌜ (r ≤ length (now (out .exit))) × (length (now (out .exit)) ≡ length (now (out .entry))) ⌝ }
 {
     let mut left: u64 = 0;
@@ -56,7 +57,7 @@ fn kept(out: &mut [u64], n: usize, left: u64, value: u64) -> usize
 }
 
 // The number at a place, 0 past the end.
-pub fn get(numbers: &[u64], at: u64) -> u64
+pub(crate) fn get(numbers: &[u64], at: u64) -> u64
     ensures { λ r. ⌜ r ≡ getD (now (numbers .entry)) at 0 ⌝ }
 {
     if at >= numbers.len() as u64 {
@@ -66,28 +67,47 @@ pub fn get(numbers: &[u64], at: u64) -> u64
 }
 
 // k places on.
-pub fn on(at: u64, k: u64) -> u64
+pub(crate) fn on(at: u64, k: u64) -> u64
     ensures { λ r. ⌜ r ≡ (at + k) % 2 ^ 64 ⌝ }
 {
     std::num::wrapping_add_u64(at, k)
 }
 
-// Whether the first n of `words`, as far as they go, are the numbers from a place on.
-pub fn same_at(words: &[u64], numbers: &[u64], at: u64, n: u64) -> bool
-    ensures { λ r. ⌜ r ≡ same-from (now (words .entry)) (now (numbers .entry)) at n (length (now (words .entry))) ⌝ }
+// Whether a word is none of the part that is compared: of each `every` words those from the first to before the last.
+fn skips(i: usize, every: usize, first: usize, last: usize) -> bool
+    requires { ⌜ 0 < every ⌝ }
+    ensures { λ r. ⌜ r ≡ skips every first last i ⌝ }
+{
+    let m = i % every;
+    (m < first) | (m >= last)
+}
+
+// Whether a part of the first n of `words`, as far as they go, is that of the numbers from a place on.
+pub(crate) fn same_part(
+    words: &[u64],
+    numbers: &[u64],
+    at: u64,
+    n: u64,
+    every: usize,
+    first: usize,
+    last: usize,
+) -> bool
+    requires { ⌜ 0 < every ⌝ }
+    ensures { λ r. ⌜ r ≡ same-part every first last (now (words .entry)) (now (numbers .entry)) at n (length (now (words .entry))) ⌝ }
 {
     let mut same = true;
     let mut i: usize = 0;
     while i < words.len() {
         let x = get(numbers, on(at, i as u64));
-        same = same & ((i as u64 >= n) | (words[i] == x));
+        let o = skips(i, every, first, last);
+        same = same & ((i as u64 >= n) | o | (words[i] == x));
         i += 1;
     }
     same
 }
 
 // Whether two rows of words are the same.
-pub fn same_words(a: &[u64], b: &[u64]) -> bool
+pub(crate) fn same_words(a: &[u64], b: &[u64]) -> bool
     ensures { λ r. ⌜ r ≡ same-rows (now (a .entry)) (now (b .entry)) ⌝ }
 {
     let mut same = a.len() == b.len();
@@ -99,30 +119,114 @@ pub fn same_words(a: &[u64], b: &[u64]) -> bool
     same
 }
 
-// Fills `out` with the numbers from a place on.
-pub fn fill(out: &mut [u64], numbers: &[u64], at: u64)
-    ensures { λ _. ⌜ length (now (out .exit)) ≡ length (now (out .entry)) ⌝ }
-{
+// Lists of the record, from a place on.
+pub(crate) fn hashes_at(numbers: &[u64], at: u64) -> [u64; 1024] {
+    let mut l: [u64; 1024] = [0; 1024];
     let mut i: usize = 0;
-    while i < out.len() {
-        out[i] = get(numbers, on(at, i as u64));
+    while i < 1024 {
+        l[i] = get(numbers, on(at, i as u64));
         i += 1;
+    }
+    l
+}
+
+pub(crate) fn seats_at(numbers: &[u64], at: u64) -> [u64; 256] {
+    let mut l: [u64; 256] = [0; 256];
+    let mut i: usize = 0;
+    while i < 256 {
+        l[i] = get(numbers, on(at, i as u64));
+        i += 1;
+    }
+    l
+}
+
+pub(crate) fn heights_at(numbers: &[u64], at: u64) -> [u32; 256] {
+    let mut l: [u32; 256] = [0; 256];
+    let mut i: usize = 0;
+    while i < 256 {
+        l[i] = low(get(numbers, on(at, i as u64)));
+        i += 1;
+    }
+    l
+}
+
+// A height has 32 bits.
+pub(crate) fn low(x: u64) -> u32 {
+    (x % 4_294_967_296) as u32
+}
+
+// The first twelve arguments of a call, and the hashes that begin at each of the first four.
+pub(crate) struct Args {
+    pub a: u64,
+    pub b: u64,
+    pub c: u64,
+    pub d: u64,
+    pub e: u64,
+    pub f: u64,
+    pub g: u64,
+    pub h: u64,
+    pub i: u64,
+    pub j: u64,
+    pub k: u64,
+    pub l: u64,
+    pub hash0: Hash,
+    pub hash1: Hash,
+    pub hash2: Hash,
+    pub hash3: Hash,
+}
+
+// k places on.
+fn nth(numbers: &[u64], at: u64, k: u64) -> u64
+    ensures { λ r. ⌜ r ≡ getD (now (numbers .entry)) ((at + k) % 2 ^ 64) 0 ⌝ }
+{
+    get(numbers, on(at, k))
+}
+
+fn hash_at(numbers: &[u64], at: u64) -> Hash
+    ensures { λ r. ⌜
+        (r .a ≡ getD (now (numbers .entry)) ((at + 0) % 2 ^ 64) 0)
+        × (r .b ≡ getD (now (numbers .entry)) ((at + 1) % 2 ^ 64) 0)
+        × (r .c ≡ getD (now (numbers .entry)) ((at + 2) % 2 ^ 64) 0)
+        × (r .d ≡ getD (now (numbers .entry)) ((at + 3) % 2 ^ 64) 0)
+        ⌝ }
+{
+    Hash {
+        a: nth(numbers, at, 0),
+        b: nth(numbers, at, 1),
+        c: nth(numbers, at, 2),
+        d: nth(numbers, at, 3),
     }
 }
 
-pub fn fill_heights(out: &mut [u32], numbers: &[u64], at: u64)
-    ensures { λ _. ⌜ length (now (out .exit)) ≡ length (now (out .entry)) ⌝ }
-{
-    let mut i: usize = 0;
-    while i < out.len() {
-        let x = get(numbers, on(at, i as u64));
-        out[i] = (x % 4_294_967_296) as u32;
-        i += 1;
+pub(crate) fn args_at(numbers: &[u64], at: u64) -> Args {
+    let hash0 = hash_at(numbers, at);
+    let hash1 = hash_at(numbers, on(at, 1));
+    let hash2 = hash_at(numbers, on(at, 2));
+    let hash3 = hash_at(numbers, on(at, 3));
+    let next = hash_at(numbers, on(at, 4));
+    let last = hash_at(numbers, on(at, 8));
+    Args {
+        a: hash0.a,
+        b: hash0.b,
+        c: hash0.c,
+        d: hash0.d,
+        e: next.a,
+        f: next.b,
+        g: next.c,
+        h: next.d,
+        i: last.a,
+        j: last.b,
+        k: last.c,
+        l: last.d,
+        hash0,
+        hash1,
+        hash2,
+        hash3,
     }
 }
 
 // A length of the recorded list, at most the most.
-pub fn length_at(numbers: &[u64], at: u64, most: usize) -> usize
+pub(crate) fn length_at(numbers: &[u64], at: u64, most: usize) -> usize
     ensures { λ r. ⌜ r ≤ most ⌝ }
 {
     let n = get(numbers, at);
@@ -133,7 +237,7 @@ pub fn length_at(numbers: &[u64], at: u64, most: usize) -> usize
 }
 
 // The words of a run go to its place.
-pub fn put_run(words: &mut [u64], numbers: &[u64], at: u64)
+pub(crate) fn put_run(words: &mut [u64], numbers: &[u64], at: u64)
     ensures { λ _. ⌜ length (now (words .exit)) ≡ length (now (words .entry)) ⌝ }
 {
     let first = get(numbers, at);

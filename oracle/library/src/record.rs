@@ -4,10 +4,11 @@
 //! A call is: its number in API.md; how many arguments, fields of its answer, releases and numbers of changed words follow; the arguments in
 //! API.md's order (a slice of the call is its length and its elements, after the plain ones); the answer's fields; nine words a release; and
 //! runs of changed words, each its place, its length and the words. A 0 ends the calls. The answers are the original's, flattened here once
-//! more; the words are the original's state by `layout`.
+//! more; the words are the original's state by `layout`. Seven records are made wrong, one for each thing that is compared, so that a replay which does
+//! not compare it is noticed.
 
 use calls::generator::Profile;
-use calls::{Answer, BlameReason, Call, Decision, Hash, Outcome, OwnedFetch, Rejection, Settings, select};
+use calls::{Answer, BlameReason, Call, Decision, Hash, Outcome, OwnedFetch, Rejection, Release, Settings, select};
 use layout::{WORDS, encode, entry_words, hash_words};
 use ordered::Original;
 use std::fs;
@@ -16,37 +17,112 @@ use std::process::ExitCode;
 /// Short sequences over small tables, so that few calls show every event.
 const PROFILE: Profile = Profile { mean_length: 18, table: 8, distinct_heights: false };
 
+/// A call, and what the original did.
+struct Record {
+    number: u64,
+    arguments: Vec<u64>,
+    said: Vec<u64>,
+    /// Nine words a release, the last of them the reason.
+    gone: Vec<[u64; 9]>,
+    /// Runs of changed words.
+    changed: Vec<u64>,
+}
+
+/// One wrong record for each thing that the replay compares: from which record on the first is taken that has the thing, and what is changed in it. Each
+/// says whether the record had it.
+const WRONG: [(usize, fn(&mut Record) -> bool); 7] = [
+    (100, |record| changed(record.said.first_mut(), |refusal| refusal + 4)),
+    (200, |record| changed(record.said.get_mut(1), |value| value + 1)),
+    (300, |record| record.gone.pop().is_some()),
+    (400, |record| record.gone.len() > 1 && swapped(&mut record.gone)),
+    (500, |record| changed(record.gone.first_mut().map(|release| &mut release[7]), |estimate| estimate + 1)),
+    (600, |record| changed(record.gone.last_mut().map(|release| &mut release[8]), |reason| reason % 10 + 1)),
+    (700, |record| changed(record.changed.last_mut(), |word| word ^ 1)),
+];
+
+fn changed(value: Option<&mut u64>, change: fn(u64) -> u64) -> bool {
+    value.map(|value| *value = change(*value)).is_some()
+}
+
+fn swapped(gone: &mut [[u64; 9]]) -> bool {
+    let last = gone.len() - 1;
+    gone.swap(0, last);
+    true
+}
+
+/// The records, with some made wrong.
+#[derive(Default)]
+struct Recorder {
+    numbers: Vec<u64>,
+    records: usize,
+    wrong: usize,
+}
+
+impl Recorder {
+    fn add(&mut self, mut record: Record) -> Record {
+        self.records += 1;
+        if let Some((from, spoil)) = WRONG.get(self.wrong)
+            && self.records >= *from
+            && spoil(&mut record)
+        {
+            self.wrong += 1;
+        }
+        let Record { number, arguments, said, gone, changed } = &record;
+        let sizes = [arguments.len(), said.len(), gone.len(), changed.len()].map(|size| size as u64);
+        self.numbers.extend([*number].iter().chain(&sizes).chain(arguments).chain(said).chain(gone.as_flattened()).chain(changed));
+        record
+    }
+}
+
 pub fn vectors(file: &str) -> ExitCode {
-    let mut numbers: Vec<u64> = Vec::new();
+    let mut recorder = Recorder::default();
     let mut words = vec![0; WORDS];
     let (mut calls, mut sequences) = (0, 0);
     let chosen = select::covering(&mut Original::default(), 1, PROFILE, 0);
     select::run(&mut Original::default(), 1, PROFILE, &chosen, |_, call, outcome| {
         calls += 1;
         sequences += u64::from(matches!(call, Call::Open { .. }));
-        let after = encode(&outcome.state);
-        let changed = runs(&words, &after);
+        let changed = runs(&words, &encode(&outcome.state));
         let (number, arguments) = spelled(call);
         let said = said(call, outcome);
-        let gone: Vec<u64> = outcome
-            .gone
-            .iter()
-            .flat_map(|release| entry_words(&release.entry).into_iter().chain([release.reason as u64]))
-            .collect();
-        let sizes = [arguments.len(), said.len(), outcome.gone.len(), changed.len()].map(|size| size as u64);
-        numbers.extend([number].into_iter().chain(sizes).chain(arguments).chain(said).chain(gone).chain(changed));
+        let gone = outcome.gone.iter().map(nine_words).collect();
+        let record = recorder.add(Record { number, arguments, said, gone, changed });
+        put_runs(&mut words, &record.changed);
         if let Answer::Planned(plan) = &outcome.answer {
-            let mut rows: Vec<u64> = plan.iter().flat_map(|plan| plan.hashes.iter().flat_map(hash_words)).collect();
-            rows.resize(32, 0);
-            numbers.extend([49, 0, 32, 0, 0].into_iter().chain(rows));
+            let mut said: Vec<u64> = plan.iter().flat_map(|plan| plan.hashes.iter().flat_map(hash_words)).collect();
+            said.resize(32, 0);
+            recorder.add(Record { number: 49, arguments: vec![], said, gone: vec![], changed: vec![] });
         }
-        words = after;
     });
-    numbers.push(0);
-    let bytes: Vec<u8> = numbers.iter().flat_map(|number| spelled_out(*number)).collect();
+    assert_eq!(recorder.wrong, WRONG.len(), "each thing that is compared has a wrong record");
+    recorder.numbers.push(0);
+    let bytes: Vec<u8> = recorder.numbers.iter().flat_map(|number| spelled_out(*number)).collect();
     fs::write(file, &bytes).unwrap_or_else(|error| panic!("{file}: {error}"));
-    println!("{calls} calls in {sequences} sequences, {} numbers in {} bytes", numbers.len(), bytes.len());
+    println!(
+        "{calls} calls in {sequences} sequences, {} records, {} of them wrong, {} numbers in {} bytes",
+        recorder.records,
+        recorder.wrong,
+        recorder.numbers.len(),
+        bytes.len()
+    );
     ExitCode::SUCCESS
+}
+
+fn nine_words(release: &Release) -> [u64; 9] {
+    let mut words = [0; 9];
+    words[..8].copy_from_slice(&entry_words(&release.entry));
+    words[8] = release.reason as u64;
+    words
+}
+
+/// What a replay expects of the words after a record: a wrong word too, which the next record's runs put right.
+fn put_runs(words: &mut [u64], changed: &[u64]) {
+    let mut at = 0;
+    while at < changed.len() {
+        let (place, length) = (changed[at] as usize, changed[at + 1] as usize);
+        words[place..place + length].copy_from_slice(&changed[at + 2..at + 2 + length]);
+        at += 2 + length;
+    }
 }
 
 fn spelled_out(number: u64) -> Vec<u8> {

@@ -29,11 +29,11 @@ returns c = search needs
 one-requires : tie.Need-one-requires Inv-loop μ-loop
 one-requires c κs = search needs
 
-counted-requires : tie.Need-counted-requires Inv-loop μ-loop
-counted-requires c κs = search needs
-
 on-requires : tie.Need-on-requires Inv-loop μ-loop
 on-requires c κs = search needs
+
+told-requires : tie.Need-told-requires Inv-loop μ-loop
+told-requires c κs = search needs
 
 runs-at-requires : tie.Need-runs-at-requires Inv-loop μ-loop
 runs-at-requires c κs = search needs
@@ -66,4 +66,4 @@ returns-2 : tie.Need-returns-2 Inv-loop μ-loop
 returns-2 c = search needs
 
 pub replay-spec : {M : Type 1} → statement M
-replay-spec = tie.close (tie.spec Inv-loop μ-loop loop-holds get-requires same-length same-length-2 returns one-requires counted-requires on-requires runs-at-requires on-requires-2 get-requires-2 on-requires-3 sub-turns loop-less loop-again same-length-3 same-length-4 returns-2)
+replay-spec = tie.close (tie.spec Inv-loop μ-loop loop-holds get-requires same-length same-length-2 returns one-requires on-requires told-requires runs-at-requires on-requires-2 get-requires-2 on-requires-3 sub-turns loop-less loop-again same-length-3 same-length-4 returns-2)

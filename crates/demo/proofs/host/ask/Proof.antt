@@ -5,8 +5,8 @@ use borrow.Author.Needs.{needs}
 use Rattle.demo.proofs.host.ask.Statement.{statement}
 use Rattle.demo.proofs.host.ask.Tie as tie
 
-estimate-requires : tie.Need-estimate-requires
-estimate-requires c κs = search needs
+ewma-block-bytes-requires : tie.Need-ewma-block-bytes-requires
+ewma-block-bytes-requires c κs = search needs
 
 hashes-from-requires : tie.Need-hashes-from-requires
 hashes-from-requires c κs = search needs
@@ -41,26 +41,20 @@ slice-aggregate-mark-requested-2 c = sym (length-take-le _ _ (array-share-prefix
 mark-requested-requires : tie.Need-mark-requested-requires
 mark-requested-requires c κs = search needs
 
-slice-aggregate-begin : tie.Need-slice-aggregate-begin
-slice-aggregate-begin c = search needs
-
-begin-requires : tie.Need-begin-requires
-begin-requires c κs = search needs
-
-blocks-requires : tie.Need-blocks-requires
-blocks-requires c κs = search needs
-
 requested-requires : tie.Need-requested-requires
 requested-requires c κs = search needs
-
-finish-requires : tie.Need-finish-requires
-finish-requires c κs = search needs
 
 opened-by-requires : tie.Need-opened-by-requires
 opened-by-requires c κs = search needs
 
+value-requires : tie.Need-value-requires
+value-requires c κs = search needs
+
 opened-requires : tie.Need-opened-requires
 opened-requires c κs = search needs
+
+done-requires : tie.Need-done-requires
+done-requires c κs = search needs
 
 same-length : tie.Need-same-length
 same-length c = search needs
@@ -69,27 +63,4 @@ returns : tie.Need-returns
 returns c = search needs
 
 pub ask-spec : {M : Type 1} → statement M
-ask-spec =
-    tie.close
-    (tie.spec
-    estimate-requires
-    hashes-from-requires
-    heights-from-requires
-    at-most-eight-requires
-    height-after-requires
-    clock-of-requires
-    mul-hashes
-    array-share-prefix-hashes
-    slice-aggregate-mark-requested
-    array-share-prefix-heights
-    slice-aggregate-mark-requested-2
-    mark-requested-requires
-    slice-aggregate-begin
-    begin-requires
-    blocks-requires
-    requested-requires
-    finish-requires
-    opened-by-requires
-    opened-requires
-    same-length
-    returns)
+ask-spec = tie.close (tie.spec ewma-block-bytes-requires hashes-from-requires heights-from-requires at-most-eight-requires height-after-requires clock-of-requires mul-hashes array-share-prefix-hashes slice-aggregate-mark-requested array-share-prefix-heights slice-aggregate-mark-requested-2 mark-requested-requires requested-requires opened-by-requires value-requires opened-requires done-requires same-length returns)
