@@ -18,24 +18,24 @@ pub struct Results {
     pub load: String,
 }
 
-/// Rows with a target in design.md, section 4, in its order.
-const AIMED: [(Row, &str, &str); 8] = [
+/// Rows with a target.
+const AIMED: [(Row, &str, &str); 11] = [
     (Row::Check, "window check alone, whole head", "≤ 1.0 of the check in Rust, ≤ 0.9 µs"),
     (Row::Delivery, "delivery, any place", "≤ 1.8 of the Rust, ≤ check + 0.5 µs"),
-    (Row::RequestOne, "request of one entry", "≤ check + 0.5 µs"),
-    (Row::RequestAll, "request of 256 entries, empty window", "≤ 2 of the Rust"),
+    (Row::Rejection, "rejection by the owner", "≤ check + 0.35 µs"),
+    (Row::Retry, "retry of one", "≤ check + 0.35 µs"),
+    (Row::Release, "release of one", "≤ check + 0.35 µs"),
+    (Row::RequestOne, "request of one entry", "≤ check + 0.3 µs"),
+    (Row::RequestAll, "request of 256 entries, empty window", "≤ 1.0 … 1.3 of the Rust"),
     (Row::Observation, "observation", "≤ 0.35 of the Rust"),
     (Row::Forecast, "forecast", "≤ 0.35 of the Rust"),
     (Row::Sweep, "sweep of 256 entries", "≤ 0.5 of the Rust"),
     (Row::OneOfEach, "one of each", "≤ 0.5 of the Rust"),
 ];
 
-const OTHERS: [(Row, &str); 12] = [
+const OTHERS: [(Row, &str); 9] = [
     (Row::IdleSweep, "sweep that takes nothing"),
     (Row::OwnedFetch, "owned fetch, asked"),
-    (Row::Rejection, "rejection by the owner"),
-    (Row::Release, "release of one"),
-    (Row::Retry, "retry of one"),
     (Row::Retirement, "retirement of all"),
     (Row::LostSeat, "a seat of eight lost"),
     (Row::Unresponsive, "peer unresponsive"),
@@ -44,6 +44,11 @@ const OTHERS: [(Row, &str); 12] = [
     (Row::Capacity, "room for one more"),
     (Row::Setting, "a setting read: the check, in these windows"),
 ];
+
+/// The nanoseconds over the check that a call on one entry may take.
+fn over_check(row: Row) -> f64 {
+    if row == Row::RequestOne { 300.0 } else { 350.0 }
+}
 
 /// What was reached of one target.
 struct Reached {
@@ -79,11 +84,11 @@ impl Results {
                     with_cheap: cheap <= 1.8 && over,
                 }
             }
-            Row::RequestOne => {
-                let over = m.ours <= check + 500.0;
+            Row::RequestOne | Row::Rejection | Row::Retry | Row::Release => {
+                let over = m.ours <= check + over_check(row);
                 Reached { text: format!("check + {:.2} µs", (m.ours - check) / 1e3), with_own_maps: over, with_cheap: over }
             }
-            Row::RequestAll => ratio(2.0),
+            Row::RequestAll => Reached { with_cheap: cheap <= 1.3, ..ratio(1.0) },
             Row::Observation | Row::Forecast => ratio(0.35),
             _ => ratio(0.5),
         })
@@ -95,8 +100,8 @@ impl Results {
         Some(match row {
             Row::Check => m.own_maps.min(900.0),
             Row::Delivery => (1.8 * m.own_maps).min(check + 500.0),
-            Row::RequestOne => check + 500.0,
-            Row::RequestAll => 2.0 * m.own_maps,
+            Row::RequestOne | Row::Rejection | Row::Retry | Row::Release => check + over_check(row),
+            Row::RequestAll => m.own_maps,
             Row::Observation | Row::Forecast => 0.35 * m.own_maps,
             _ => 0.5 * m.own_maps,
         })
@@ -117,7 +122,7 @@ impl Results {
             };
             let said = |met| if met { "yes" } else { "no" };
             let met = match (row, reached.with_own_maps, reached.with_cheap) {
-                (Row::Check | Row::RequestOne, met, _) => said(met).to_string(),
+                (Row::Check | Row::RequestOne | Row::Rejection | Row::Retry | Row::Release, met, _) => said(met).to_string(),
                 (_, own, cheap) => format!("{} … {}", said(own), said(cheap)),
             };
             let rust = if row == Row::Check { [us(m.own_maps), "–".into()] } else { [us(m.own_maps), us(m.cheap)] };
