@@ -1,12 +1,12 @@
 -- Numbers as text, set right and grouped by thousands.
-use mathlib.Core.Path.{_≡_, _∙_, refl}
+use mathlib.Core.Path.{_≡_, refl}
 use mathlib.Core.Bool.{Bool, true, false, cond}
 use mathlib.Core.List.{List, [], _∷_}
 use Prim.Native.Nat.{ℕ, zero, suc, _+_, _-_, _/_, _%_}
 use Prim.Native.Char.{Char, code}
 use Prim.Native.String.{String, [] as []ˢ, _∷_ as _∷ˢ_}
 use lib.Dec.{eqb}
-use lib.ListN.{length, getD, set, drop, replicate, length-set}
+use lib.ListN.{length, getD, set, drop, replicate}
 
 -- the bytes of a quoted text
 abbrev pub bytes : String → List ℕ
@@ -52,16 +52,6 @@ put-first (suc k) place s line = set (put-first k place s line) (place + k) (get
 
 unfoldable pub put : ℕ → List ℕ → List ℕ → List ℕ
 put place s line = put-first (length s) place s line
-
-pub length-put-first : (k place : ℕ) (s line : List ℕ) → length (put-first k place s line) ≡ length line
-unfolding put-first
-length-put-first zero place s line = refl
-length-put-first (suc k) place s line = length-set (put-first k place s line) (place + k) (getD s k 0) ∙ length-put-first k place s line
-
-pub length-filled : (k n : ℕ) → length (filled k n) ≡ 26
-unfolding filled
-length-filled zero n = refl
-length-filled (suc k) n = length-set (filled k n) (25 - k) (byte-of k (rest-after k n)) ∙ length-filled k n
 
 -- by computation
 million : column 10 true 1234567 ≡ bytes " 1,234,567"

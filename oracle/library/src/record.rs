@@ -69,7 +69,8 @@ impl Recorder {
         }
         let Record { number, arguments, said, gone, changed } = &record;
         let sizes = [arguments.len(), said.len(), gone.len(), changed.len()].map(|size| size as u64);
-        self.numbers.extend([*number].iter().chain(&sizes).chain(arguments).chain(said).chain(gone.as_flattened()).chain(changed));
+        self.numbers
+            .extend([*number].iter().chain(&sizes).chain(arguments).chain(said).chain(gone.as_flattened()).chain(changed));
         record
     }
 }
