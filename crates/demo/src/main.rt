@@ -1,5 +1,8 @@
 // A node catches up through twelve peers: a script of calls, one line each, and the book at the end.
+ghost use mathlib.Core.Path.{_≡_};
 ghost use Prim.Native.Nat.{_<_};
+ghost use Rattle.ledger.specs.Book.{balanced, capped-sum};
+ghost use Rattle.lines.specs.Words.{verdicts};
 
 mod host;
 
@@ -222,6 +225,18 @@ fn by_reasons(blocks: [u64; 11], bytes: [u64; 11]) {
     }
 }
 
+// What the program says of its book at the end, beside what the window says is pending.
+fn verdict(b: Book, pending: u64, pending_bytes: u64) -> [u8; 74]
+    ensures { λ r. ⌜ r ≡ verdicts (balanced (b .blocks) (capped-sum 11 (b .gone)) pending (b .bytes) (capped-sum 11 (b .«gone_bytes»)) «pending_bytes») ⌝ }
+{
+    let l = b.gone;
+    let m = b.gone_bytes;
+    let gone = ledger::sum(l);
+    let gone_bytes = ledger::sum(m);
+    let right = ledger::balanced(b.blocks, gone, pending, b.bytes, gone_bytes, pending_bytes);
+    lines::words::verdict(right)
+}
+
 fn close(words: &[u64], b: Book) {
     let l = b.gone;
     let m = b.gone_bytes;
@@ -233,8 +248,7 @@ fn close(words: &[u64], b: Book) {
     by_reasons(l, m);
     entry(11, gone, gone_bytes);
     entry(12, a.pending, a.bytes);
-    let right = ledger::balanced(b.blocks, gone, a.pending, b.bytes, gone_bytes, a.bytes);
-    let v = lines::words::verdict(right);
+    let v = verdict(b, a.pending, a.bytes);
     put(&v);
 }
 
