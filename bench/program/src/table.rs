@@ -110,14 +110,11 @@ impl Results {
     pub fn text(&self) -> String {
         let mut text = self.heading();
         let _ = writeln!(text, "\n## Against the targets: 256 pending\n");
-        let _ = writeln!(
-            text,
-            "| work | ours | the Rust, own maps | the Rust, cheap hasher | target | reached | met (own maps … cheap hasher) |"
-        );
-        let _ = writeln!(text, "|---|---|---|---|---|---|---|");
+        let _ = writeln!(text, "Where two numbers stand, beside the Rust with its own maps … with the cheap hasher.\n");
+        let _ = writeln!(text, "| work | target | reached | met |\n|---|---|---|---|");
         for (row, name, target) in AIMED {
-            let Some((m, reached)) = self.at(row, 256).zip(self.reached(row)) else {
-                let _ = writeln!(text, "| {name} | not in the library yet | | | {target} | | |");
+            let Some(reached) = self.reached(row) else {
+                let _ = writeln!(text, "| {name} | {target} | not in the library yet | |");
                 continue;
             };
             let said = |met| if met { "yes" } else { "no" };
@@ -125,13 +122,19 @@ impl Results {
                 (Row::Check | Row::RequestOne | Row::Rejection | Row::Retry | Row::Release, met, _) => said(met).to_string(),
                 (_, own, cheap) => format!("{} … {}", said(own), said(cheap)),
             };
-            let rust = if row == Row::Check { [us(m.own_maps), "–".into()] } else { [us(m.own_maps), us(m.cheap)] };
-            let _ =
-                writeln!(text, "| {name} | {} | {} | {} | {target} | {} | {met} |", us(m.ours), rust[0], rust[1], reached.text);
+            let _ = writeln!(text, "| {name} | {target} | {} | {met} |", reached.text);
         }
-        let _ =
-            writeln!(text, "\n## At 0, 8, 128 and 256 pending\n\nOurs / the Rust with its own maps / with a cheap hasher, µs.\n");
-        let _ = writeln!(text, "| work | 0 | 8 | 128 | 256 |\n|---|---|---|---|---|");
+        self.times(&mut text, [0, 8]);
+        self.times(&mut text, [128, 256]);
+        text
+    }
+
+    /// The times at two numbers pending.
+    fn times(&self, text: &mut String, pending: [usize; 2]) {
+        let [few, many] = pending;
+        let _ = writeln!(text, "\n## At {few} and {many} pending\n");
+        let _ = writeln!(text, "Ours / the Rust with its own maps / with a cheap hasher, µs.\n");
+        let _ = writeln!(text, "| work | {few} | {many} |\n|---|---|---|");
         let names = AIMED.iter().map(|(row, name, _)| (*row, name.replace("256 entries", "all entries")));
         for (row, name) in names.chain(OTHERS.iter().map(|(row, name)| (*row, name.to_string()))) {
             let cell = |pending| {
@@ -140,9 +143,8 @@ impl Results {
                     _ => format!("{} / {} / {}", short(m.ours), short(m.own_maps), short(m.cheap)),
                 })
             };
-            let _ = writeln!(text, "| {name} | {} | {} | {} | {} |", cell(0), cell(8), cell(128), cell(256));
+            let _ = writeln!(text, "| {name} | {} | {} |", cell(few), cell(many));
         }
-        text
     }
 
     fn heading(&self) -> String {
