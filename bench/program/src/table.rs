@@ -21,7 +21,7 @@ pub struct Results {
 /// Rows with a target.
 const AIMED: [(Row, &str, &str); 11] = [
     (Row::Check, "window check alone, whole head", "≤ 1.0 of the check in Rust, ≤ 0.9 µs"),
-    (Row::Delivery, "delivery, any place", "≤ 1.8 of the Rust, ≤ check + 0.5 µs"),
+    (Row::Delivery, "a delivery", "≤ 1.8 of the Rust, ≤ check + 0.5 µs"),
     (Row::Rejection, "rejection by the owner", "≤ check + 0.35 µs"),
     (Row::Retry, "retry of one", "≤ check + 0.35 µs"),
     (Row::Release, "release of one", "≤ check + 0.35 µs"),
