@@ -221,7 +221,3 @@ fn short(ns: f64) -> String {
     let us = ns / 1e3;
     if us < 10.0 { format!("{us:.2}") } else { format!("{us:.1}") }
 }
-
-fn us(ns: f64) -> String {
-    format!("{} µs", short(ns))
-}
