@@ -95,9 +95,9 @@ fn equal_heights() -> Shown {
     let lower = if hash(1) < hash(2) { 1 } else { 2 };
     let mine = owner(&mut Library::default());
     Shown {
-        what: "the front among two entries of one height, of 200 runs",
+        what: "the front of two at one height, 200 runs",
         original: format!("seat 1 {} times, seat 2 {} times", times(1), times(2)),
-        library: format!("seat {mine:?}, the lower hash's, as with ordered maps"),
+        library: format!("seat {mine:?}, the lower hash's"),
         holds: times(1) > 0 && times(2) > 0 && mine == Some(lower) && owner(&mut Original::default()) == mine,
     }
 }
