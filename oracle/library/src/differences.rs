@@ -95,9 +95,9 @@ fn equal_heights() -> Shown {
     let lower = if hash(1) < hash(2) { 1 } else { 2 };
     let mine = owner(&mut Library::default());
     Shown {
-        what: "the front of two at one height, 200 runs",
-        original: format!("seat 1 {} times, seat 2 {} times", times(1), times(2)),
-        library: format!("seat {mine:?}, the lower hash's"),
+        what: "the front of two at one height, in 200 runs",
+        original: format!("seat 1 {}, seat 2 {}", times(1), times(2)),
+        library: format!("seat {mine:?}, lower hash"),
         holds: times(1) > 0 && times(2) > 0 && mine == Some(lower) && owner(&mut Original::default()) == mine,
     }
 }
