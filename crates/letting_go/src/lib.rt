@@ -1,18 +1,17 @@
 // The calls that let go, with their refusals, in lent words. What went is written, nine words each, in `gone`: the public call writes the lent report
-// from it. `room` is that report's length. A call that lets go one entry at most asks for nine words, the others for 256 times nine.
+// from it. `room` is that report's length. Each promises `LetsGo` of the change that it is (specs/Letting.antt): answer, words and what went are
+// those of the definitions. A call that lets go one entry at most asks for nine words, the others for 256 times nine.
 ghost use mathlib.Core.Path.{_≡_};
 ghost use mathlib.Core.List.{[]};
-ghost use Prim.Native.Nat.{_≤_, _*_};
 ghost use lib.ListN.{length};
-ghost use Rattle.model.specs.Refusals.{changes, releases, requeues, rejects, expires, retires, retains, credits, receives};
-ghost use Rattle.model.specs.Perform.{says, answer-after, words-after, gone-after};
+ghost use Rattle.model.specs.Refusals.{releases, requeues, rejects, expires, retires, retains, credits, receives};
+ghost use Rattle.model.specs.Perform.{says};
 ghost use Rattle.model.specs.Says.{let-go-says, rejected-says, received-says};
 ghost use Rattle.model.specs.Window.{with-clock};
 ghost use Rattle.model.specs.Layout.{window-of};
 ghost use Rattle.laws.specs.Whole.{Whole, Holds};
-ghost use Rattle.report_words.specs.Report.{releases-of};
 ghost use Rattle.heights.specs.Heights.{wide};
-ghost use Rattle.letting_go.specs.Letting.{places};
+ghost use Rattle.letting_go.specs.Letting.{places, LetsGo};
 use heights::Height32;
 use model::Hash;
 use model::LetGo;
@@ -40,13 +39,7 @@ pub fn release_pending(
     clock: u64,
 ) -> LetGo
     requires { ⌜ length (now gone) ≡ 9 ⌝ }
-    ensures { λ r. ⌜
-        (let-go-says r ≡ answer-after (changes (releases clock h)) (now (words .entry)) room)
-        × (now (words .exit) ≡ words-after (changes (releases clock h)) (now (words .entry)) room)
-        × (releases-of (places (let-go-says r)) (now (gone .exit)) ≡ gone-after (changes (releases clock h)) (now (words .entry)) room)
-        × (places (let-go-says r) ≤ room)
-        × (9 * places (let-go-says r) ≤ length (now (gone .entry)))
-        ⌝ }
+    ensures { λ r. ⌜ LetsGo (length (now (gone .entry))) (releases clock h) (now (words .entry)) room (let-go-says r) (now (words .exit)) (now (gone .exit)) ⌝ }
 {
     let k = admission::report_refused_by(words, room, clock, true);
     if k != 0 {
@@ -66,13 +59,7 @@ pub fn requeue_for_retry(
     clock: u64,
 ) -> LetGo
     requires { ⌜ length (now gone) ≡ 9 ⌝ }
-    ensures { λ r. ⌜
-        (let-go-says r ≡ answer-after (changes (requeues clock h (wide named))) (now (words .entry)) room)
-        × (now (words .exit) ≡ words-after (changes (requeues clock h (wide named))) (now (words .entry)) room)
-        × (releases-of (places (let-go-says r)) (now (gone .exit)) ≡ gone-after (changes (requeues clock h (wide named))) (now (words .entry)) room)
-        × (places (let-go-says r) ≤ room)
-        × (9 * places (let-go-says r) ≤ length (now (gone .entry)))
-        ⌝ }
+    ensures { λ r. ⌜ LetsGo (length (now (gone .entry))) (requeues clock h (wide named)) (now (words .entry)) room (let-go-says r) (now (words .exit)) (now (gone .exit)) ⌝ }
 {
     let k = admission::report_refused_by(words, room, clock, true);
     if k != 0 {
@@ -93,13 +80,7 @@ pub fn reject_delivery(
     clock: u64,
 ) -> Rejected
     requires { ⌜ length (now gone) ≡ 9 ⌝ }
-    ensures { λ r. ⌜
-        (rejected-says r ≡ answer-after (changes (rejects clock h source)) (now (words .entry)) room)
-        × (now (words .exit) ≡ words-after (changes (rejects clock h source)) (now (words .entry)) room)
-        × (releases-of (places (rejected-says r)) (now (gone .exit)) ≡ gone-after (changes (rejects clock h source)) (now (words .entry)) room)
-        × (places (rejected-says r) ≤ room)
-        × (9 * places (rejected-says r) ≤ length (now (gone .entry)))
-        ⌝ }
+    ensures { λ r. ⌜ LetsGo (length (now (gone .entry))) (rejects clock h source) (now (words .entry)) room (rejected-says r) (now (words .exit)) (now (gone .exit)) ⌝ }
 {
     let p = admission::source_ok(source);
     let k = admission::report_refused_by(words, room, clock, p);
@@ -114,13 +95,7 @@ pub fn reject_delivery(
 // `expires`
 pub fn expire_pending(words: &mut [u64], room: usize, gone: &mut [u64], clock: u64) -> LetGo
     requires { ⌜ length (now gone) ≡ 2304 ⌝ }
-    ensures { λ r. ⌜
-        (let-go-says r ≡ answer-after (changes (expires clock)) (now (words .entry)) room)
-        × (now (words .exit) ≡ words-after (changes (expires clock)) (now (words .entry)) room)
-        × (releases-of (places (let-go-says r)) (now (gone .exit)) ≡ gone-after (changes (expires clock)) (now (words .entry)) room)
-        × (places (let-go-says r) ≤ room)
-        × (9 * places (let-go-says r) ≤ length (now (gone .entry)))
-        ⌝ }
+    ensures { λ r. ⌜ LetsGo (length (now (gone .entry))) (expires clock) (now (words .entry)) room (let-go-says r) (now (words .exit)) (now (gone .exit)) ⌝ }
 {
     let k = admission::report_refused_by(words, room, clock, true);
     if k != 0 {
@@ -139,13 +114,7 @@ pub fn retire_before(
     clock: u64,
 ) -> LetGo
     requires { ⌜ length (now gone) ≡ 2304 ⌝ }
-    ensures { λ r. ⌜
-        (let-go-says r ≡ answer-after (changes (retires clock height)) (now (words .entry)) room)
-        × (now (words .exit) ≡ words-after (changes (retires clock height)) (now (words .entry)) room)
-        × (releases-of (places (let-go-says r)) (now (gone .exit)) ≡ gone-after (changes (retires clock height)) (now (words .entry)) room)
-        × (places (let-go-says r) ≤ room)
-        × (9 * places (let-go-says r) ≤ length (now (gone .entry)))
-        ⌝ }
+    ensures { λ r. ⌜ LetsGo (length (now (gone .entry))) (retires clock height) (now (words .entry)) room (let-go-says r) (now (words .exit)) (now (gone .exit)) ⌝ }
 {
     let k = admission::report_refused_by(words, room, clock, true);
     if k != 0 {
@@ -158,13 +127,7 @@ pub fn retire_before(
 // `retains`: it takes no clock, and leaves the last one
 pub fn retain_owned_by(words: &mut [u64], room: usize, gone: &mut [u64], flags: &[u64]) -> LetGo
     requires { ⌜ length (now gone) ≡ 2304 ⌝ }
-    ensures { λ r. ⌜
-        (let-go-says r ≡ answer-after (changes (retains (now (flags .entry)))) (now (words .entry)) room)
-        × (now (words .exit) ≡ words-after (changes (retains (now (flags .entry)))) (now (words .entry)) room)
-        × (releases-of (places (let-go-says r)) (now (gone .exit)) ≡ gone-after (changes (retains (now (flags .entry)))) (now (words .entry)) room)
-        × (places (let-go-says r) ≤ room)
-        × (9 * places (let-go-says r) ≤ length (now (gone .entry)))
-        ⌝ }
+    ensures { λ r. ⌜ LetsGo (length (now (gone .entry))) (retains (now (flags .entry))) (now (words .entry)) room (let-go-says r) (now (words .exit)) (now (gone .exit)) ⌝ }
 {
     let k = admission::timeless_report_refused_by(words, room, flags.len() == sizes::SEATS);
     if k != 0 {
@@ -187,13 +150,7 @@ pub fn credit_delivery_from(
     clock: u64,
 ) -> LetGo
     requires { ⌜ length (now gone) ≡ 2304 ⌝ }
-    ensures { λ r. ⌜
-        (let-go-says r ≡ answer-after (changes (credits clock h source (wide height))) (now (words .entry)) room)
-        × (now (words .exit) ≡ words-after (changes (credits clock h source (wide height))) (now (words .entry)) room)
-        × (releases-of (places (let-go-says r)) (now (gone .exit)) ≡ gone-after (changes (credits clock h source (wide height))) (now (words .entry)) room)
-        × (places (let-go-says r) ≤ room)
-        × (9 * places (let-go-says r) ≤ length (now (gone .entry)))
-        ⌝ }
+    ensures { λ r. ⌜ LetsGo (length (now (gone .entry))) (credits clock h source (wide height)) (now (words .entry)) room (let-go-says r) (now (words .exit)) (now (gone .exit)) ⌝ }
 {
     let k = admission::report_refused_by(words, room, clock, source <= limits::MAX_SEAT);
     if k != 0 {
@@ -215,13 +172,7 @@ pub fn mark_received_from(
     clock: u64,
 ) -> Received
     requires { ⌜ length (now gone) ≡ 2304 ⌝ }
-    ensures { λ r. ⌜
-        (received-says r ≡ answer-after (changes (receives clock h bytes source)) (now (words .entry)) room)
-        × (now (words .exit) ≡ words-after (changes (receives clock h bytes source)) (now (words .entry)) room)
-        × (releases-of (places (received-says r)) (now (gone .exit)) ≡ gone-after (changes (receives clock h bytes source)) (now (words .entry)) room)
-        × (places (received-says r) ≤ room)
-        × (9 * places (received-says r) ≤ length (now (gone .entry)))
-        ⌝ }
+    ensures { λ r. ⌜ LetsGo (length (now (gone .entry))) (receives clock h bytes source) (now (words .entry)) room (received-says r) (now (words .exit)) (now (gone .exit)) ⌝ }
 {
     let p = admission::source_ok(source);
     let k = admission::body_refused_by(words, room, clock, p, bytes);
