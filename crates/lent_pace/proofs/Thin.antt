@@ -22,15 +22,15 @@ use ghost.Atoms.{Atoms, sem}
 use contract.Monad.{Fun, fact}
 use contract.Lifetimes.{Lfts}
 use contract.Running.{Running, GhostRules, givenOf, tables, tablesOf}
-use types.Kit.{Given, Item, Post, Seq, runs, ‵, raw, later, some, _⊛_, ⋆, _$_, _∵_, !, qed, by, move, keep, drop, use0, use1, use3, split, split3, join, pick, show, fsplit, fsplit3, fjoin, feqI, frame, await, updating, now as at-once, done}
+use types.Kit.{Given, Item, Post, Seq, runs, ‵, raw, later, some, _⊛_, ⋆, _$_, _∵_, !, qed, by, move, keep, drop, use0, use1, use3, split, split3, join, pick, show, fsplit, fsplit3, fjoin, feqL, feqI, frame, await, updating, now as at-once, done}
 use types.Run.{look, look-raw, init, store-raw, forget, stop, hop, from, load, unit-lit, of-opd, no-more, assigns, land, returns, enter, alloc1, alloc0, params1, pass1, free1, free0}
 use types.SemTy.{Body}
 use sound.WpLaws.{FmC, fmOf}
-use denote.RattleType.{Denots, owns}
+use denote.RattleType.{RattleType, owns}
 use denote.Laws.{Is, shows}
 use denote.Memory.{mem, pointee, cellAt}
 use denote.Plain.{Nothing}
-use denote.Ref.{now, mut-tells}
+use denote.Ref.{RefT, now}
 use denote.Signature.{Slot, plain, mutRefTo, typesAt}
 use denote.Steps.{opens, closes, peeks, heard, nothing}
 use denote.Struct.Steps.{spelt}
@@ -44,8 +44,7 @@ use denote.Triple.Table.{entered, cited}
 use denote.Triple.Walked.{says}
 use denote.Exit.{yes}
 use Rattle.model.specs.declared.Pace.{Pace}
-use Rattle.lent_pace.proofs.Local.{R, val}
-use Rattle.lent_pace.proofs.Values.{Par, pace, Rest, vals, Known, paste, vals-paste, known-paste, slots, into, learnt, Handed, handed, unsaid, known-at, locals, past, copies, Blocks, env, rooms, helds, forgets, Found, further, found, after, allocs-rest, passes-rest, frees-rest, swapped, valued, local-at, loads-rest}
+use Rattle.lent_pace.proofs.Values.{Par, pace, Rest, vals, Known, paste, vals-paste, known-paste, slots, into, R, val, learnt, Handed, handed, unsaid, peeks-all, by-value, answers, ByValue, locals, past, copies, Blocks, env, rooms, helds, forgets, Found, further, found, after, allocs-rest, passes-rest, frees-rest, swapped, valued, local-at, loads-rest}
 
 -- what the rule is given of the pace
 abbrev pub seen : Bool → List Par
@@ -101,14 +100,8 @@ module _ (c : Rule) where
   }
 
   -- ---- the rule's contract, and the function's own
-  abbrev rule-ended : Ended
-  rule-ended = record {
-    signature = record { lifetimes = 0; outlives = []; params = slots 0 (c .others ++ seen (c .old)); result = plain (λ _. R) };
-    kept = all yes (slots 0 (c .others ++ seen (c .old)));
-  }
-
-  abbrev rule-clauses : {M : Type 1} (𝓤 : URA M) → Clauses 𝓤 rule-ended
-  rule-clauses 𝓤 κs a = record { ghost = Unit {0}; requires = λ _. c .asks 𝓤 (into 0 κs (c .others ++ seen (c .old)) a); ensures = λ _ r e. fact 𝓤 (r ≡ c .gives (into 0 κs (c .others ++ seen (c .old)) a)) }
+  abbrev Rule-of : {M : Type 1} (𝓤 : URA M) (H : Heap 𝓤) → Atoms 𝓤 → Contract 𝓤
+  Rule-of 𝓤 H A = ByValue (c .others ++ seen (c .old)) 𝓤 H A (c .asks 𝓤) (c .gives)
 
   abbrev all-slots : List (Slot 1)
   all-slots = mutRefTo (0 ∷ []) tt (plain (λ _. R)) ∷ slots 1 (c .others)
@@ -116,58 +109,43 @@ module _ (c : Rule) where
   abbrev pub ended : Ended
   ended = record { signature = record { lifetimes = 1; outlives = []; params = all-slots; result = plain (λ _. Nothing) }; kept = all yes all-slots }
 
-  abbrev given-at : (κs : Lfts 1) → Denots (typesAt all-slots κs) → Rest (c .others ++ seen (c .old))
+  abbrev given-at : (κs : Lfts 1) → Args (ended .signature) κs → Rest (c .others ++ seen (c .old))
   given-at κs a = given (into 1 κs (c .others) (a .1)) (now (a .0))
 
   abbrev pub clauses : {M : Type 1} (𝓤 : URA M) → Clauses 𝓤 ended
   clauses 𝓤 κs a = record { ghost = Unit {0}; requires = λ _. c .asks 𝓤 (given-at κs a); ensures = λ _ r e. fact 𝓤 (now (e .0) ≡ c .gives (given-at κs a)) }
 
-  module _ {M : Type 1} (𝓤 : URA M) (H : Heap 𝓤) (A : Atoms 𝓤) where
-    abbrev Rule-of : Contract 𝓤
-    Rule-of = tripleOf 𝓤 H A (rule-ended .signature) (closing 𝓤 H A rule-ended (rule-clauses 𝓤))
-
-    abbrev pub Promise : Contract 𝓤
-    Promise = tripleOf 𝓤 H A (ended .signature) (closing 𝓤 H A ended (clauses 𝓤))
+  abbrev pub Promise : {M : Type 1} (𝓤 : URA M) (H : Heap 𝓤) → Atoms 𝓤 → Contract 𝓤
+  Promise 𝓤 H A = tripleOf 𝓤 H A (ended .signature) (closing 𝓤 H A ended (clauses 𝓤))
 
 -- ---- the walk
 module _ (c : Rule) {M : Type 1} (𝓤 : URA M) (H : Heap 𝓤) (A : Atoms 𝓤) (W : Given 𝓤 H A) (κ : Lft) (q : Share) (l o : ℕ) (γ : GName) (h : Pace) (b : Rest (c .others)) (is-rest : Known (c .others) b) where
   abbrev ps : List Par
   ps = c .others
 
-  -- the environment, and where the copy of the pace lies in it
-  abbrev E : (old : Bool) → ℕ → ℕ → Blocks ps → ℕ → Blocks (seen old) → Env 𝓤 H
-  E old l0 l1 bs l2 ss = (tyUnit, l0) ∷ (ref-ty c, l1) ∷ env W ps bs ((pace .ty, l2) ∷ env W (seen old) ss [])
-
-  found-old : (old : Bool) (l0 l1 : ℕ) (bs : Blocks ps) (l2 : ℕ) (ss : Blocks (seen old)) → Found W (E old l0 l1 bs l2 ss) (suc (suc (past ps 1))) (seen old) ss
-  found-old true l0 l1 bs l2 ss = (after W ps bs ((pace .ty, l2) ∷ (pace .ty, ss .0) ∷ []) 1, tt)
-  found-old false l0 l1 bs l2 ss = tt
+  -- the copy of the pace, where the rule is given it: where its local lies, its type's relation, and the statement that makes it, in a context [room for it; the struct's cell; the reference's local; ..]
+  found-old : (old : Bool) (bs : Blocks ps) (e : Ty × ℕ) (ss : Blocks (seen old)) → Found W (env W ps bs (e ∷ env W (seen old) ss [])) (past ps 1) (seen old) ss
+  found-old true bs e ss = (after W ps bs (e ∷ (pace .ty, ss .0) ∷ []) 1, tt)
+  found-old false bs e ss = tt
 
   known-old : (old : Bool) → Is R h (val h ∷ []) → Known (seen old) (seen-at old h)
   known-old true is = (is, tt)
   known-old false is = tt
 
-  -- [room for the copy; the struct's cell; the reference's local; ..]
-  reads-old : {K : Type 0} → K → (old : Bool) (l0 l1 : ℕ) (bs : Blocks ps) (l2 : ℕ) (ss : Blocks (seen old)) {C : Calls 𝓤 H} {Λ : Loops 𝓤 H} {tail : Code} {ends : Post 𝓤 H} {Γ : List (Item 𝓤)} → Is R h (val h ∷ [])
-      → Seq K W (raw (helds W (seen old) (seen-at old h) ss) ∷ ‵ (cellAt fullShare (R .mir) (val h ∷ []) l o) ∷ ‵ (fat fullShare (ref-ty c) l1 0 (vptr l o)) ∷ Γ) (runs C Λ (E old l0 l1 bs l2 ss) tail ends)
-      → Seq K W (raw (rooms W (seen old) ss) ∷ ‵ (cellAt fullShare (R .mir) (val h ∷ []) l o) ∷ ‵ (fat fullShare (ref-ty c) l1 0 (vptr l o)) ∷ Γ) (runs C Λ (E old l0 l1 bs l2 ss) (reads c old tail) ends)
-  reads-old t true l0 l1 bs l2 ss is s =
+  reads-old : {K : Type 0} → K → (old : Bool) (l1 : ℕ) (ss : Blocks (seen old)) {C : Calls 𝓤 H} {Λ : Loops 𝓤 H} {e : Ty × ℕ} {E : Env 𝓤 H} {tail : Code} {ends : Post 𝓤 H} {Γ : List (Item 𝓤)} → Found W E (past ps 1) (seen old) ss → Is R h (val h ∷ [])
+      → Seq K W (raw (helds W (seen old) (seen-at old h) ss) ∷ ‵ (cellAt fullShare (R .mir) (val h ∷ []) l o) ∷ ‵ (fat fullShare (ref-ty c) l1 0 (vptr l o)) ∷ Γ) (runs C Λ (e ∷ (ref-ty c, l1) ∷ E) tail ends)
+      → Seq K W (raw (rooms W (seen old) ss) ∷ ‵ (cellAt fullShare (R .mir) (val h ∷ []) l o) ∷ ‵ (fat fullShare (ref-ty c) l1 0 (vptr l o)) ∷ Γ) (runs C Λ (e ∷ (ref-ty c, l1) ∷ E) (reads c old tail) ends)
+  reads-old t true l1 ss f is s =
       use1 W (‵ (froom (pace .ty) (ss .0) 0) ⊛ ‵ (fdies (pace .ty) (ss .0)) ⊛ ‵ ftrue) (id⊢ 𝓤 _) $ split3 t $
-      assigns t (of-opd t (load t (from t (hop t (look t 4 refl) (stop t))) (look-raw t 3 refl))) (local-at W t (after W ps bs _ 1) (stop t)) (init t 0 refl (pace .typed 𝓤 H A W h (val h) is)) $
-      use3 W (raw (helds W (seen true) (h, tt) ss)) (id⊢ 𝓤 _) $ s
-  reads-old t false l0 l1 bs l2 ss is s = s
+      assigns t (of-opd t (load t (from t (hop t (look t 4 refl) (stop t))) (look-raw t 3 refl))) (local-at W t (f .0) (stop t)) (init t 0 refl (pace .typed 𝓤 H A W h (val h) is)) $ use3 W (raw (helds W (seen true) (h, tt) ss)) (id⊢ 𝓤 _) $ s
+  reads-old t false l1 ss f is s = s
 
   -- the call of the rule
   abbrev z : Rest (ps ++ seen (c .old))
   z = given c b h
 
-  abbrev Says : Pace → Type 0
-  Says r = r ≡ c .gives z
-
   module _ (was : Is R h (val h ∷ [])) where
-    abbrev Hs : Type 1
-    Hs = Handed 0 tt 𝓤 H A (ps ++ seen (c .old)) z
-
-    to-all : Hs
+    to-all : Handed 0 tt 𝓤 H A (ps ++ seen (c .old)) z
     to-all = handed 0 tt 𝓤 H A W (ps ++ seen (c .old)) z (known-paste ps (seen (c .old)) b (seen-at (c .old) h) is-rest (known-old (c .old) was))
 
     abbrev to-rule : Rule-of c 𝓤 H A .Ghost
@@ -178,7 +156,10 @@ module _ (c : Rule) {M : Type 1} (𝓤 : URA M) (H : Heap 𝓤) (A : Atoms 𝓤)
         qed W (raw (c .asks 𝓤 z) ∷ []) ∵ use1 W (raw (c .asks 𝓤 (into 0 tt (ps ++ seen (c .old)) (to-all .args)))) (subst (λ (w : Rest (ps ++ seen (c .old))). ent 𝓤 (c .asks 𝓤 z) (c .asks 𝓤 w)) (sym (to-all .into-is)) (id⊢ 𝓤 (c .asks 𝓤 z))) $
         use0 W (‵ (owns (typesAt (slots 0 (ps ++ seen (c .old))) tt) (to-all .args) (to-all .lists))) (to-all .owned) $ nothing ! $ join ! $ done !
 
-  module _ (End : Val → SProp 𝓤) (exits : (r : Pace) → Says r → ent 𝓤 (⋆ 𝓤 H A (‵ (fobs γ (R .coded .code r)) ∷ ‵ (flft κ q) ∷ [])) (End vunit)) (C : Calls 𝓤 H) (Λ : Loops 𝓤 H) (fm : FmC 𝓤 H (W .laws) C) (known : Triple 𝓤 (C (c .by)) (Rule-of c 𝓤 H A)) where
+    abbrev Says : Pace → Type 0
+    Says r = r ≡ c .gives (into 0 tt (ps ++ seen (c .old)) (to-all .args))
+
+  module _ (End : Val → SProp 𝓤) (exits : (r : Pace) → r ≡ c .gives z → ent 𝓤 (⋆ 𝓤 H A (‵ (fobs γ (R .coded .code r)) ∷ ‵ (flft κ q) ∷ [])) (End vunit)) (C : Calls 𝓤 H) (Λ : Loops 𝓤 H) (fm : FmC 𝓤 H (W .laws) C) (known : Triple 𝓤 (C (c .by)) (Rule-of c 𝓤 H A)) where
     walk : ent 𝓤 (⋆ 𝓤 H A (‵ (fobs γ (R .coded .code h)) ∷ ‵ (fbor κ (Body (mem R) l o γ)) ∷ ‵ (flft κ q) ∷ raw (c .asks 𝓤 z) ∷ [])) (WpFn 𝓤 H C Λ (fn c) (vptr l o ∷ vals ps b []) End)
     walk =
         qed W (‵ (fobs γ (R .coded .code h)) ∷ ‵ (fbor κ (Body (mem R) l o γ)) ∷ ‵ (flft κ q) ∷ raw (c .asks 𝓤 z) ∷ []) ∵ enter ! C Λ (fn c) (vptr l o ∷ vals ps b []) _ $
@@ -188,16 +169,15 @@ module _ (c : Rule) {M : Type 1} (𝓤 : URA M) (H : Heap 𝓤) (A : Atoms 𝓤)
         move ! (8 ∷ 9 ∷ 10 ∷ []) $ opens ! tt R {h = h} l o (λ vs. spelt ! R (Is R) (shows 𝓤 H A R) (λ x. val x ∷ []) (pace .tells) fullShare h vs l o $
         move ! (1 ∷ []) $ peeks ! R (Is R) (shows 𝓤 H A R) h (val h ∷ []) (λ was. drop ! $
         -- [the struct's cell 0; the open borrow 1; obs 2; auth 3; the others 4; room for the copy 5; the result's local 6; the reference's 8; _0 10; what is asked 12]
-        move ! (5 ∷ 0 ∷ 8 ∷ []) $ reads-old ! (c .old) l0 l1 bs l2 ss was (
+        move ! (5 ∷ 0 ∷ 8 ∷ []) $ reads-old ! (c .old) l1 ss (found-old (c .old) bs (pace .ty, l2) ss) was (
         -- [the copy 0; the cell 1; the reference's local 2; the open borrow 3; obs 4; auth 5; the others 6; the result's local 7; what frees the reference's 9; _0 10; what is asked 12]
         move ! (12 ∷ []) $ use1 W (raw (Rule-of c 𝓤 H A .pre (to-rule was))) (goes-rule was) $ move ! (0 ∷ 7 ∷ 1 ∷ []) $
         calls-at ! fm (Rule-of c 𝓤 H A) known (to-rule was)
         (valued W ! (vals ps b (vals (seen (c .old)) (seen-at (c .old) h) [])) (to-all was .flat-is ∙ vals-paste ps (seen (c .old)) b (seen-at (c .old) h) [])
         (loads-rest W ! _ ps b bs 2 (further W _ _ 1 ps bs (further W _ _ 0 ps bs (found W ps bs _)))
-        (swapped W ! (loads-rest W ! _ (seen (c .old)) (seen-at (c .old) h) ss (suc (suc (past ps 1))) (found-old (c .old) l0 l1 bs l2 ss) (no-more !))))) (λ v.
-        use1 W (later (some (λ (r : Pace). (‵ ftrue ⊛ ‵ (R .own r (v ∷ []))) ⊛ raw (ensured 𝓤 H A (rule-ended c) (rule-clauses c 𝓤) tt (to-all was .args) tt r)))) (id⊢ 𝓤 _) $ await ! tt $ pick ! (λ r. split ! $ move ! (1 ∷ []) $
-        use1 W (raw (fact 𝓤 (r ≡ c .gives (into 0 tt (ps ++ seen (c .old)) (to-all was .args))))) (exE 𝓤 _ (λ ws. snd∗ 𝓤 (sem 𝓤 H A (lasts (rule-ended c) tt (to-all was .args) ws)) (fact 𝓤 (r ≡ c .gives (into 0 tt (ps ++ seen (c .old)) (to-all was .args)))))) $
-        heard ! (r ≡ c .gives (into 0 tt (ps ++ seen (c .old)) (to-all was .args))) (λ e. split ! $ drop ! $ peeks ! R (Is R) (shows 𝓤 H A R) r (v ∷ []) (λ is.
+        (swapped W ! (loads-rest W ! _ (seen (c .old)) (seen-at (c .old) h) ss (suc (suc (past ps 1))) (further W _ _ _ (seen (c .old)) ss (further W _ _ _ (seen (c .old)) ss (found-old (c .old) bs (pace .ty, l2) ss))) (no-more !))))) (λ v.
+        use1 W (later (some (λ (r : Pace). (‵ ftrue ⊛ ‵ (R .own r (v ∷ []))) ⊛ raw (ensured 𝓤 H A (by-value (ps ++ seen (c .old))) (answers (ps ++ seen (c .old)) 𝓤 (c .asks 𝓤) (c .gives)) tt (to-all was .args) tt r)))) (id⊢ 𝓤 _) $ await ! tt $ pick ! (λ r. split ! $ move ! (1 ∷ []) $
+        use1 W (raw (fact 𝓤 (Says was r))) (exE 𝓤 _ (λ ws. snd∗ 𝓤 (sem 𝓤 H A (lasts (by-value (ps ++ seen (c .old))) tt (to-all was .args) ws)) (fact 𝓤 (Says was r)))) $ heard ! (Says was r) (λ e. split ! $ drop ! $ peeks ! R (Is R) (shows 𝓤 H A R) r (v ∷ []) (λ is.
         -- [what the result owns; the others 1; the copy 2; the cell 3; the reference's local 4; the open borrow 5; obs 6; auth 7; the result's local 8; what frees the reference's 10; _0 11]
         land ! (local-at W ! (after W ps bs _ 0) (stop !)) (init ! 8 refl (pace .typed 𝓤 H A W r v is)) $
         assigns ! (of-opd ! (load ! (local-at W ! (after W ps bs _ 0) (stop !)) (look ! 8 refl))) (from ! (hop ! (look ! 4 refl) (stop !))) (store-raw ! 3 refl (pace .typed 𝓤 H A W r v is)) $
@@ -208,37 +188,27 @@ module _ (c : Rule) {M : Type 1} (𝓤 : URA M) (H : Heap 𝓤) (A : Atoms 𝓤)
         keep ! (0 ∷ 2 ∷ []) $ by ! (exits r (subst (λ (w : Rest (ps ++ seen (c .old))). r ≡ c .gives w) (to-all was .into-is) e)))))))))))))))))
 
 module _ (c : Rule) {M : Type 1} (𝓤 : URA M) (H : Heap 𝓤) (A : Atoms 𝓤) (W : Given 𝓤 H A) (C : Calls 𝓤 H) (Λ : Loops 𝓤 H) (fm : FmC 𝓤 H (W .laws) C) (known : Triple 𝓤 (C (c .by)) (Rule-of c 𝓤 H A)) where
-  -- at the arguments y
-  module _ (y : Promise c 𝓤 H A .Ghost) where
-    abbrev κs : Lfts 1
-    κs = y .0 .0
-
-    abbrev a : Args (ended c .signature) κs
-    a = y .0 .3
-
-    abbrev x-name : GName
-    x-name = a .0 .name
-
-    exits : (r : Pace) → r ≡ c .gives (given-at c κs a) → ent 𝓤 (⋆ 𝓤 H A (‵ (fobs x-name (R .coded .code r)) ∷ ‵ (flft (κs .0) (y .0 .1 .0)) ∷ [])) (Promise c 𝓤 H A .post y vunit)
-    exits r e =
-        let none = unsaid 1 κs 𝓤 H A (c .others) (a .1) in
-        qed W (‵ (fobs x-name (R .coded .code r)) ∷ ‵ (flft (κs .0) (y .0 .1 .0)) ∷ []) ∵ updating ! $ at-once ! $
-        show ! (λ (t : Unit {0}). sep 𝓤 (Back 𝓤 H A (ended c .signature) (y .0) vunit t) (ensured 𝓤 H A (ended c) (clauses c 𝓤) κs a tt t)) tt $
-        use1 W (‵ (fres x-name (R .coded .code r))) (W .names .obs-res x-name (R .coded .code r)) $ feqI ! (List Val) (vunit ∷ []) (vunit ∷ []) refl $ nothing ! $ move ! (3 ∷ 0 ∷ []) $ join ! $ join ! $ frame ! $
-        show ! (λ (ws : Lasts (ended c) κs a). sep 𝓤 (sem 𝓤 H A (lasts (ended c) κs a ws)) (clauses c 𝓤 κs a .ensures tt tt (atExit (ended c) κs a ws))) (r, none .0) $ says ! e $
-        use0 W (‵ (lastsOf κs (slots 1 (c .others)) (all yes (slots 1 (c .others))) (a .1) (none .0))) (none .1) $ move ! (1 ∷ 0 ∷ []) $ fjoin ! $ done !
+  exits : (y : Promise c 𝓤 H A .Ghost) (r : Pace) → r ≡ c .gives (given-at c (y .0 .0) (y .0 .3)) → ent 𝓤 (⋆ 𝓤 H A (‵ (fobs (y .0 .3 .0 .name) (R .coded .code r)) ∷ ‵ (flft (y .0 .0 .0) (y .0 .1 .0)) ∷ [])) (Promise c 𝓤 H A .post y vunit)
+  exits y r e =
+      let γ : GName = y .0 .3 .0 .name in
+      let none = unsaid 1 (y .0 .0) 𝓤 H A (c .others) (y .0 .3 .1) in
+      qed W (‵ (fobs γ (R .coded .code r)) ∷ ‵ (flft (y .0 .0 .0) (y .0 .1 .0)) ∷ []) ∵ updating ! $ at-once ! $ show ! (λ (t : Unit {0}). sep 𝓤 (Back 𝓤 H A (ended c .signature) (y .0) vunit t) (ensured 𝓤 H A (ended c) (clauses c 𝓤) (y .0 .0) (y .0 .3) tt t)) tt $
+      use1 W (‵ (fres γ (R .coded .code r))) (W .names .obs-res γ (R .coded .code r)) $ feqI ! (List Val) (vunit ∷ []) (vunit ∷ []) refl $ nothing ! $ move ! (3 ∷ 0 ∷ []) $ join ! $ join ! $ frame ! $
+      show ! (λ (ws : Lasts (ended c) (y .0 .0) (y .0 .3)). sep 𝓤 (sem 𝓤 H A (lasts (ended c) (y .0 .0) (y .0 .3) ws)) (clauses c 𝓤 (y .0 .0) (y .0 .3) .ensures tt tt (atExit (ended c) (y .0 .0) (y .0 .3) ws))) (r, none .0) $ says ! e $
+      use0 W (‵ (lastsOf (y .0 .0) (slots 1 (c .others)) (all yes (slots 1 (c .others))) (y .0 .3 .1) (none .0))) (none .1) $ move ! (1 ∷ 0 ∷ []) $ fjoin ! $ done !
 
   meets : Triple 𝓤 (WpFn 𝓤 H C Λ (fn c)) (Promise c 𝓤 H A)
-  meets y = known-at 𝓤 H A (ended c) (clauses c 𝓤) y _ (λ are.
-      let x = y .0 .3 .0 in
-      let r = learnt 1 (y .0 .0) (c .others) (y .0 .3 .1) (y .0 .4 .1) (are .1) in
+  meets y =
+      let x : RefT Pace = y .0 .3 .0 in
       let b : Rest (c .others) = into 1 (y .0 .0) (c .others) (y .0 .3 .1) in
-      let p : y .0 .4 .0 ≡ vptr (x .ptr .0) (x .ptr .1) ∷ [] = mut-tells (named 0) (y .0 .0 .0) R x (y .0 .4 .0) (are .0) in
+      let Rs : List RattleType = typesAt (slots 1 (c .others)) (y .0 .0) in
+      let entry : List (Item 𝓤) = ‵ (fobs (x .name) (R .coded .code (x .now))) ∷ ‵ (fbor (y .0 .0 .0) (Body (mem R) (x .ptr .0) (x .ptr .1) (x .name))) ∷ ‵ (flft (y .0 .0 .0) (y .0 .1 .0)) ∷ raw (c .asks 𝓤 (given c b (x .now))) ∷ [] in
+      qed W (((‵ (flft (y .0 .0 .0) (y .0 .1 .0)) ⊛ ‵ ftrue) ⊛ ‵ (owns (typesAt (all-slots c) (y .0 .0)) (y .0 .3) (y .0 .4))) ∷ raw (c .asks 𝓤 (given c b (x .now))) ∷ []) ∵
+      split ! $ split ! $ move ! (2 ∷ []) $ fsplit ! $ fsplit3 ! $ feqL ! (λ p. move ! (2 ∷ []) $ peeks-all ! Rs (y .0 .3 .1) (y .0 .4 .1) (λ are. keep ! (0 ∷ 1 ∷ 2 ∷ 4 ∷ []) $
+      let r = learnt 1 (y .0 .0) (c .others) (y .0 .3 .1) (y .0 .4 .1) are in
       let e : Promise c 𝓤 H A .args y ≡ vptr (x .ptr .0) (x .ptr .1) ∷ vals (c .others) b [] = λ i. p i ++ r .0 i in
-      subst (λ (vs : List Val). ent 𝓤 (Promise c 𝓤 H A .pre y) (WpFn 𝓤 H C Λ (fn c) vs (Promise c 𝓤 H A .post y))) (sym e)
-      (qed W (((‵ (flft (y .0 .0 .0) (y .0 .1 .0)) ⊛ ‵ ftrue) ⊛ ‵ (owns (typesAt (all-slots c) (y .0 .0)) (y .0 .3) (y .0 .4))) ∷ raw (c .asks 𝓤 (given-at c (y .0 .0) (y .0 .3))) ∷ []) ∵
-      split ! $ split ! $ move ! (2 ∷ []) $ fsplit ! $ fsplit3 ! $ keep ! (1 ∷ 2 ∷ 4 ∷ 6 ∷ []) $
-      by ! (walk c 𝓤 H A W (y .0 .0 .0) (y .0 .1 .0) (x .ptr .0) (x .ptr .1) (x .name) (x .now) b (r .1) (Promise c 𝓤 H A .post y) (exits y) C Λ fm known)))
+      by ! (subst (λ (vs : List Val). ent 𝓤 (⋆ 𝓤 H A entry) (WpFn 𝓤 H C Λ (fn c) vs (Promise c 𝓤 H A .post y))) (sym e)
+      (walk c 𝓤 H A W (y .0 .0 .0) (y .0 .1 .0) (x .ptr .0) (x .ptr .1) (x .name) (x .now) b (r .1) (Promise c 𝓤 H A .post y) (exits y) C Λ fm known))))
 
 -- THE THEOREM: in an environment γ in which the function's name means its code, and the rule's name a routine that meets the rule's contract, the function keeps its promise
 pub thins : (c : Rule) {M : Type 1} (𝓤 : URA M) (H : Heap 𝓤) (𝓜 : Model 𝓤 H) (𝓖 : GhostRules 𝓤 H) (𝓡 : Running 𝓤 H 𝓜) (γ : Rt.Env) (f : Name) → Closed 𝓤 H (tables 𝓤 H 𝓜 𝓡 γ .C) (tables 𝓤 H 𝓜 𝓡 γ .Λ) f (fn c)

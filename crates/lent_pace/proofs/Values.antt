@@ -2,8 +2,9 @@
 --     Par              such a type: its one machine value, and that what it owns is had for nothing.        clock, pace, settings
 --     Rest ps          their values.        vals, Known      their machine values before others, and that these are of the types
 --     slots n ps       their slots in a signature of n lifetimes.        into      their values, from a signature's arguments
---     known-at, learnt     at entry: what the arguments' types own says of their machine values
+--     peeks-all, learnt    at entry: what the arguments' types own says of their machine values
 --     handed           arguments for a callee.        unsaid      at exit nothing is bound of them, and nothing said
+--     ByValue          the contract of a function that is all by value, and answers a pace
 --     env, rooms, helds    their locals: the environment, the memory before they are stored and after
 --     allocs-rest, passes-rest, loads-rest, frees-rest     the four places where a walk meets them
 -- Assumes `Given`.
@@ -16,11 +17,11 @@ use lib.Dec.{T}
 use lib.ListN.{getD}
 use mir.Syntax.{Ty, tyInt, w64, Local, local, valueLocal, Opd as Operand, copy, place, Step as PStep}
 use mir.Val.{Val, vint, hasTy, WT}
-use base.Logic.{SProp, ent, sep, emp, id⊢, via, mono∗, monoR, fst∗, snd∗, emp∗}
+use base.Logic.{SProp, ent, sep, emp, id⊢, via, mono∗, monoR, emp∗}
 use base.Fml.{Fml, ftrue, fat, froom, fdies}
 use prog.Wp.{Heap, Env, walk, noLocal}
 use ghost.Atoms.{Atoms, sem}
-use contract.Monad.{fact-use}
+use contract.Monad.{fact}
 use contract.Lifetimes.{Lfts}
 use types.Kit.{Given, Item, ‵, raw, _⊛_, ⋆, Goal, frees, allocs, passes, Seq, _$_, _∵_, !, qed, move, use0, use1, use3, split3, drop, done}
 use types.Run.{Walks, Finds, Opds, look, stop, load, and-then, init, alloc1, pass1, pass0, free1}
@@ -33,10 +34,12 @@ use denote.Struct.Declared as SD
 use denote.Struct.Laws as SL
 use denote.Struct.Struct as SS
 use denote.Signature.{Slot, plain, typesAt}
-use denote.Triple.Entry.{alive, onEntry}
+use denote.Steps.{heard}
 use denote.Triple.End.{Fins, lastsOf, all}
 use denote.Triple.Spec.{tripleOf}
+use denote.Triple.Statement.{Contract}
 use denote.Triple.Clauses.{Ended, Clauses, closing}
+use Rattle.model.specs.declared.Pace.{Pace}
 use Rattle.model.proofs.Pace as Pc
 use Rattle.model.proofs.Pace.Laws as Pc′
 use Rattle.model.proofs.Settings as St
@@ -52,15 +55,7 @@ pub record Par : Type 2 where
   pub still : row .exit yes ≡ unchanged
 
 abbrev struct : (D : SD.Declared) → SL.Laws D → SS.Plains (SD.fields D) → SL.Copyables (D .parts) → Par
-struct D L P C = record {
-  ty = SS.layout (SD.shape D);
-  row = SD.row D;
-  val = SL.val D L;
-  tells = SL.tells D L;
-  typed = λ 𝓤 H A W x v is. SL.lawful D L 𝓤 H A W .typed x (v ∷ []) is .0;
-  makes = λ 𝓤 H A W. SL.makes D P 𝓤 H A;
-  still = SL.still D C yes;
-}
+struct D L P C = record { ty = SS.layout (SD.shape D); row = SD.row D; val = SL.val D L; tells = SL.tells D L; typed = λ 𝓤 H A W x v is. SL.lawful D L 𝓤 H A W .typed x (v ∷ []) is .0; makes = λ 𝓤 H A W. SL.makes D P 𝓤 H A; still = SL.still D C yes }
 
 abbrev pub pace : Par
 pace = struct Pc.the-type Pc′.the-laws Pc′.the-plain Pc′.the-copy
@@ -69,15 +64,13 @@ abbrev pub settings : Par
 settings = struct St.the-type St′.the-laws St′.the-plain St′.the-copy
 
 abbrev pub clock : Par
-clock = record {
-  ty = tyInt w64;
-  row = u64;
-  val = vint w64;
-  tells = uint-tells w64;
-  typed = λ 𝓤 H A W n v is. uint-lawful 𝓤 H A W w64 .typed n (v ∷ []) is .0;
-  makes = λ 𝓤 H A W. uint-makes 𝓤 H A W w64;
-  still = refl;
-}
+clock = record { ty = tyInt w64; row = u64; val = vint w64; tells = uint-tells w64; typed = λ 𝓤 H A W n v is. uint-lawful 𝓤 H A W w64 .typed n (v ∷ []) is .0; makes = λ 𝓤 H A W. uint-makes 𝓤 H A W w64; still = refl }
+
+abbrev pub R : RattleType
+R = pace .row
+
+abbrev pub val : Pace → Val
+val = pace .val
 
 -- ---- a list of them
 abbrev pub Rest : List Par → Type 0
@@ -137,13 +130,8 @@ module _ (n : ℕ) (κs : Lfts n) where
     handed W [] b is = record { args = tt; lists = tt; into-is = refl; flat-is = refl; owned = id⊢ 𝓤 (emp 𝓤) }
     handed W (p ∷ ps) b is =
         let r : Handed ps (b .1) = handed W ps (b .1) (is .1) in
-        record {
-          args = (b .0, r .args);
-          lists = (p .val (b .0) ∷ [], r .lists);
-          into-is = ap (λ (c : Rest ps). (b .0, c)) (r .into-is);
-          flat-is = ap (λ (vs : List Val). p .val (b .0) ∷ vs) (r .flat-is);
-          owned = via 𝓤 (sep 𝓤 (emp 𝓤) (emp 𝓤)) (emp∗ 𝓤 (emp 𝓤)) (mono∗ 𝓤 (p .makes 𝓤 H A W (b .0) (p .val (b .0) ∷ []) (is .0)) (r .owned));
-        }
+        let own : ent 𝓤 (emp 𝓤) (sem 𝓤 H A (p .row .own (b .0) (p .val (b .0) ∷ []))) = p .makes 𝓤 H A W (b .0) (p .val (b .0) ∷ []) (is .0) in
+        record { args = (b .0, r .args); lists = (p .val (b .0) ∷ [], r .lists); into-is = ap (λ (c : Rest ps). (b .0, c)) (r .into-is); flat-is = ap (λ (vs : List Val). p .val (b .0) ∷ vs) (r .flat-is); owned = via 𝓤 (sep 𝓤 (emp 𝓤) (emp 𝓤)) (emp∗ 𝓤 (emp 𝓤)) (mono∗ 𝓤 own (r .owned)) }
 
     pub unsaid : (ps : List Par) (a : Denots (Ts ps)) → (ws : Fins κs (slots n ps) (all yes (slots n ps)) a) × ent 𝓤 (emp 𝓤) (sem 𝓤 H A (lastsOf κs (slots n ps) (all yes (slots n ps)) a ws))
     unsaid [] a = (tt, id⊢ 𝓤 (emp 𝓤))
@@ -152,15 +140,20 @@ module _ (n : ℕ) (κs : Lfts n) where
         let one : (w : Last (p .row .exit yes) (a .0)) × (left (p .row .exit yes) (a .0) w ≡ ftrue) = subst (λ (e : Exit (p .row .Denot)). (w : Last e (a .0)) × (left e (a .0) w ≡ ftrue)) (sym (p .still)) (tt, refl) in
         ((one .0, r .0), via 𝓤 (sep 𝓤 (emp 𝓤) (emp 𝓤)) (emp∗ 𝓤 (emp 𝓤)) (mono∗ 𝓤 (subst (λ (P : Fml). ent 𝓤 (emp 𝓤) (sem 𝓤 H A P)) (sym (one .1)) (id⊢ 𝓤 (emp 𝓤))) (r .1)))
 
--- at entry a run may be shown with what the arguments' types say of their machine values in hand
-pub known-at : {M : Type 1} (𝓤 : URA M) (H : Heap 𝓤) (A : Atoms 𝓤) (E : Ended) (c : Clauses 𝓤 E) (y : tripleOf 𝓤 H A (E .signature) (closing 𝓤 H A E c) .Ghost) (Q : SProp 𝓤)
-    → (Are (typesAt (E .signature .params) (y .0 .0)) (Ises (typesAt (E .signature .params) (y .0 .0))) (y .0 .3) (y .0 .4) → ent 𝓤 (tripleOf 𝓤 H A (E .signature) (closing 𝓤 H A E c) .pre y) Q)
-    → ent 𝓤 (tripleOf 𝓤 H A (E .signature) (closing 𝓤 H A E c) .pre y) Q
-known-at 𝓤 H A E c y Q k =
-    let Rs : List RattleType = typesAt (E .signature .params) (y .0 .0) in
-    fact-use 𝓤 (Are Rs (Ises Rs) (y .0 .3) (y .0 .4))
-    (via 𝓤 (onEntry 𝓤 H A (E .signature) (y .0 .0) (y .0 .1) (y .0 .3) (y .0 .4)) (fst∗ 𝓤 (onEntry 𝓤 H A (E .signature) (y .0 .0) (y .0 .1) (y .0 .3) (y .0 .4)) (c (y .0 .0) (y .0 .3) .requires (y .1)))
-    (via 𝓤 (sem 𝓤 H A (owns Rs (y .0 .3) (y .0 .4))) (snd∗ 𝓤 (alive 𝓤 H A (E .signature) (y .0 .0) (y .0 .1)) (sem 𝓤 H A (owns Rs (y .0 .3) (y .0 .4)))) (owns-show 𝓤 H A Rs (Ises Rs) (showss 𝓤 H A Rs) (y .0 .3) (y .0 .4)))) k
+-- what the arguments' types own says of their machine values
+pub peeks-all : {M : Type 1} {𝓤 : URA M} {H : Heap 𝓤} {A : Atoms 𝓤} {W : Given 𝓤 H A} {K : Type 0} {Γ : List (Item 𝓤)} {G : Goal 𝓤 H} → K → (Rs : List RattleType) (a : Denots Rs) (vss : Valss Rs) → (Are Rs (Ises Rs) a vss → Seq K W Γ G) → Seq K W (‵ (owns Rs a vss) ∷ Γ) G
+peeks-all {𝓤 = 𝓤} {H} {A} {W} t Rs a vss k = use1 W (raw (fact 𝓤 (Are Rs (Ises Rs) a vss))) (owns-show 𝓤 H A Rs (Ises Rs) (showss 𝓤 H A Rs) a vss) $ heard t (Are Rs (Ises Rs) a vss) k
+
+-- ---- a function that is all by value and answers a pace: its contract, by what it asks and gives
+module _ (ps : List Par) where
+  abbrev pub by-value : Ended
+  by-value = record { signature = record { lifetimes = 0; outlives = []; params = slots 0 ps; result = plain (λ _. R) }; kept = all yes (slots 0 ps) }
+
+  abbrev pub answers : {M : Type 1} (𝓤 : URA M) → (Rest ps → SProp 𝓤) → (Rest ps → Pace) → Clauses 𝓤 by-value
+  answers 𝓤 asks gives κs a = record { ghost = Unit {0}; requires = λ _. asks (into 0 κs ps a); ensures = λ _ r e. fact 𝓤 (r ≡ gives (into 0 κs ps a)) }
+
+  abbrev pub ByValue : {M : Type 1} (𝓤 : URA M) (H : Heap 𝓤) → Atoms 𝓤 → (Rest ps → SProp 𝓤) → (Rest ps → Pace) → Contract 𝓤
+  ByValue 𝓤 H A asks gives = tripleOf 𝓤 H A (by-value .signature) (closing 𝓤 H A by-value (answers 𝓤 asks gives))
 
 -- ---- in a walk
 abbrev pub locals : List Par → List Local → List Local
