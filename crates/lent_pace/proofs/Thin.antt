@@ -1,6 +1,6 @@
--- A thin function over a lent pace, whichever: its code, its contract, and the walk of the one by which it meets the other, said once. It is a `Rule`: the parameters after the pace, whether the rule is given the pace too, and what the rule asks and answers.
+-- A thin function over a lent pace, whichever: its code, its contract, and the walk of the one by which it meets the other, said once. It is a `Rule` of crate pace: the parameters after the pace, whether the rule is given the pace too, what it asks and what it gives.
 --     *p = pace::RULE(.., *p);        or        *p = pace::RULE(..);
--- The borrow is opened, the struct is copied out where the rule is given it, the rule is called, what it returns is stored over the struct, and the borrow is closed there.
+-- The borrow is opened, the pace is copied out where the rule is given it, the rule is called, what it returns is stored over the pace, and the borrow is closed there.
 -- There is no branch. Nothing here looks into the pace, and all that the proof knows of the rule is that it meets its contract.
 -- Assumes nothing.
 use mathlib.Core.Path.{_≡_, refl, sym, subst, _∙_}
@@ -56,9 +56,8 @@ seen-at true h = (h, tt)
 seen-at false h = tt
 
 pub record Rule : Type 2 where
-  -- the parameters after the pace
+  -- the parameters after the pace, and whether the rule is given the pace too
   pub others : List Par
-  -- whether the rule is given the pace too
   pub old : Bool
   pub asks : {M : Type 1} (𝓤 : URA M) → Rest (others ++ seen old) → SProp 𝓤
   pub gives : Rest (others ++ seen old) → Pace
@@ -69,7 +68,7 @@ module _ (c : Rule) where
   abbrev pub given : Rest (c .others) → Pace → Rest (c .others ++ seen (c .old))
   given b h = paste (c .others) (seen (c .old)) b (seen-at (c .old) h)
 
-  -- ---- the code
+  -- ---- the code. The n-th local after the parameters: the rule's result, and the copy of the pace where there is one
   abbrev nr : ℕ → Place
   nr n = place (suc (suc (past (c .others) n))) []
 

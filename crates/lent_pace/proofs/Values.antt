@@ -1,10 +1,11 @@
--- The parameters by value that a walked function only passes on, however many: said once, over any list of them. A walk has one entry of its context for all of them.
---     Par              such a type: its one machine value, and that what it owns is had for nothing.        clock, pace, settings
---     Rest ps          their values.        vals, Known      their machine values before others, and that these are of the types
+-- The parameters by value that a walked function only passes on, however many: said once, over any list of them. A walk has one entry of its context for all of them, so that its positions do not depend on their number.
+-- It is a simpler form of `Passed` of crates/window: no parameter has a lifetime, and what each owns is had for nothing, so that no walk carries it.
+--     Par              such a parameter: its type, its one machine value, and that what it owns is had for nothing.        pace, settings, clock      the three of this crate
+--     Rest ps          their values.        vals, Known      their machine values, before others; that these are of their types
 --     slots n ps       their slots in a signature of n lifetimes.        into      their values, from a signature's arguments
 --     peeks-all, learnt    at entry: what the arguments' types own says of their machine values
 --     handed           arguments for a callee.        unsaid      at exit nothing is bound of them, and nothing said
---     ByValue          the contract of a function that is all by value, and answers a pace
+--     ByValue          the contract of a function that is all by value and answers a pace
 --     env, rooms, helds    their locals: the environment, the memory before they are stored and after
 --     allocs-rest, passes-rest, loads-rest, frees-rest     the four places where a walk meets them
 -- Assumes `Given`.
