@@ -13,18 +13,14 @@ use mir.Syntax.{Name, Fn, Place, place, tyUnit, tyRef, mut, Lifetime, erased, na
 use mir.Val.{Val, vptr}
 use base.Logic.{SProp, ent, sep, ex, guard, emp, id⊢}
 use base.Fml.{Lft, GName, ftrue, fsep, fat, fdead, fres, flft, flent}
-use prog.Routine.{Routine}
-use prog.Routine as Rt
-use prog.Wp.{Heap, Calls, Loops, WpFn, Tables, Closed}
-use prog.Model.{Model}
+use prog.Wp.{Heap, Calls, Loops, WpFn}
 use ghost.Atoms.{Atoms, sem}
 use contract.Monad.{fact}
-use contract.Running.{Running, GhostRules, givenOf, tables, tablesOf}
 use types.Kit.{Given, ‵, raw, given as told-so, later, some, _⊛_, ⋆, _$_, _∵_, !, qed, by, move, keep, drop, check, rewrite, use0, use1, use3, split, join, pick, show, learn, fsplit, fjoin, fpick, fpack, frame, await, updating, now as at-once, done}
 use types.Run.{look, init, forget, stop, from, load, addr, of-opd, and-then, no-more, assigns, land, returns, enter, alloc1, alloc0, params1, pass1, free1, free0}
 use types.Tokens.{lft-new, lft-end}
 use types.SemTy.{Body}
-use sound.WpLaws.{FmC, fmOf}
+use sound.WpLaws.{FmC}
 use denote.RattleType.{RattleType, owns}
 use denote.Laws.{Is, shows}
 use denote.Memory.{mem, pointee, cellAt, partOf}
@@ -37,11 +33,10 @@ use denote.Triple.Spec.{Back}
 use denote.Triple.Statement.{Contract, Triple}
 use denote.Triple.Call.{calls-at}
 use denote.Triple.Clauses.{Ended, Clauses, Lasts, atExit, ensured, lasts}
-use denote.Triple.Table.{entered, cited}
 use denote.Triple.Walked.{says}
 use Rattle.model.specs.declared.Pace.{Pace}
 use Rattle.lent_pace.proofs.Values.{Par, pace, Rest, vals, Known, slots, into, R, val, learnt, Handed, handed, unsaid, peeks-all, by-value, answers, ByValue, locals, past, copies, rooms, forgets, further, found, after, allocs-rest, passes-rest, frees-rest, valued, local-at, loads-rest}
-use Rattle.lent_pace.proofs.Thin.{Rule, given, ended as thin-ended, clauses as thin-clauses, Promise as Thin}
+use Rattle.lent_pace.proofs.Thin.{Stands, stands, Rule, given, ended as thin-ended, clauses as thin-clauses, Promise as Thin}
 
 module _ (c : Rule) where
   -- ---- the code, where the thin function's name is f
@@ -144,7 +139,7 @@ module _ (c : Rule) {M : Type 1} (𝓤 : URA M) (H : Heap 𝓤) (A : Atoms 𝓤)
         move ! (12 ∷ 13 ∷ []) $ free1 ! $ move ! (10 ∷ 11 ∷ []) $ free1 ! $ frees-rest W ! ps bs (move ! (0 ∷ 8 ∷ []) $ free1 ! $ move ! (5 ∷ 6 ∷ []) $ free1 ! $ move ! (3 ∷ 4 ∷ []) $ free1 ! $ free0 ! $
         keep ! (0 ∷ []) $ by ! (exits (hs .0) (subst (λ (w : Rest ps). hs .0 ≡ c .gives (given c w h)) (to-all n0 ν .into-is) e) are)))))))))))))))))
 
-module _ (c : Rule) {M : Type 1} (𝓤 : URA M) (H : Heap 𝓤) (A : Atoms 𝓤) (W : Given 𝓤 H A) (f : Name) (C : Calls 𝓤 H) (Λ : Loops 𝓤 H) (fm : FmC 𝓤 H (W .laws) C) (known : Triple 𝓤 (C f) (Thin c 𝓤 H A)) where
+module _ (c : Rule) (f : Name) {M : Type 1} (𝓤 : URA M) (H : Heap 𝓤) (A : Atoms 𝓤) (W : Given 𝓤 H A) (C : Calls 𝓤 H) (Λ : Loops 𝓤 H) (fm : FmC 𝓤 H (W .laws) C) (known : Triple 𝓤 (C f) (Thin c 𝓤 H A)) where
   exits : (y : Promise c 𝓤 H A .Ghost) (r : Pace) → r ≡ c .gives (given c (into 0 (y .0 .0) (c .others) (y .0 .3 .1)) (y .0 .3 .0)) → Is R r (val r ∷ []) → ent 𝓤 (emp 𝓤) (Promise c 𝓤 H A .post y (val r))
   exits y r e is =
       let none = unsaid 0 (y .0 .0) 𝓤 H A (pace ∷ c .others) (y .0 .3) in
@@ -161,12 +156,6 @@ module _ (c : Rule) {M : Type 1} (𝓤 : URA M) (H : Heap 𝓤) (A : Atoms 𝓤)
       keep ! (0 ∷ []) $ by ! (subst (λ (vs : List Val). ent 𝓤 (c .asks 𝓤 (given c b (y .0 .3 .0))) (WpFn 𝓤 H C Λ (fn c f) vs (Promise c 𝓤 H A .post y))) (sym (r .0))
       (walk c 𝓤 H A W (y .0 .3 .0) (r .1 .0) b (r .1 .1) (Promise c 𝓤 H A .post y) (exits y) f C Λ fm known)))
 
--- THE THEOREM: in an environment γ in which the function's name means its code, and f a routine that meets the thin function's contract, the function keeps its promise
-pub lends : (c : Rule) {M : Type 1} (𝓤 : URA M) (H : Heap 𝓤) (𝓜 : Model 𝓤 H) (𝓖 : GhostRules 𝓤 H) (𝓡 : Running 𝓤 H 𝓜) (γ : Rt.Env) (g f : Name) → Closed 𝓤 H (tables 𝓤 H 𝓜 𝓡 γ .C) (tables 𝓤 H 𝓜 𝓡 γ .Λ) g (fn c f)
-    → (r : Routine) → γ f ≡ r → Triple 𝓤 (𝓡 .run r) (Thin c 𝓤 H (𝓖 .A)) → Triple 𝓤 (tables 𝓤 H 𝓜 𝓡 γ .C g) (Promise c 𝓤 H (𝓖 .A))
-unfolding tablesOf
-lends c 𝓤 H 𝓜 𝓖 𝓡 γ g f closed r is-thin met =
-    let 𝓣 : Tables 𝓤 H = tablesOf 𝓤 H 𝓜 (tables 𝓤 H 𝓜 𝓡 γ) in
-    let W : Given 𝓤 H (𝓖 .A) = givenOf 𝓤 H 𝓜 𝓖 in
-    entered 𝓤 H (Promise c 𝓤 H (𝓖 .A)) (tables 𝓤 H 𝓜 𝓡 γ .C) (tables 𝓤 H 𝓜 𝓡 γ .Λ) g (fn c f) closed
-    (meets c 𝓤 H (𝓖 .A) W f (𝓣 .C) (𝓣 .Λ) (fmOf 𝓤 H (W .laws) 𝓣) (cited 𝓤 H (Thin c 𝓤 H (𝓖 .A)) 𝓜 𝓡 γ f r is-thin met))
+-- THE THEOREM: the function stands on the thin one, whose name is f
+pub lends : (c : Rule) (f : Name) {M : Type 1} (𝓤 : URA M) (H : Heap 𝓤) → Stands 𝓤 H (Thin c 𝓤 H) f (Promise c 𝓤 H) (fn c f)
+lends c f 𝓤 H = stands 𝓤 H (Thin c 𝓤 H) f (Promise c 𝓤 H) (fn c f) (meets c f 𝓤 H)

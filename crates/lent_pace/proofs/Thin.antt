@@ -46,6 +46,27 @@ use denote.Exit.{yes}
 use Rattle.model.specs.declared.Pace.{Pace}
 use Rattle.lent_pace.proofs.Values.{Par, pace, Rest, vals, Known, paste, vals-paste, known-paste, slots, into, R, val, learnt, Handed, handed, unsaid, peeks-all, by-value, answers, ByValue, locals, past, copies, Blocks, env, rooms, helds, forgets, Found, further, found, after, allocs-rest, passes-rest, frees-rest, swapped, valued, local-at, loads-rest}
 
+-- ---- what a function of either shape is shown to be
+-- code e stands on the callee by: in an environment γ in which a name f means e, and by a routine that keeps the promise Q, f keeps the promise P
+abbrev pub Stands : {M : Type 1} (𝓤 : URA M) (H : Heap 𝓤) (Q : Atoms 𝓤 → Contract 𝓤) → Name → (P : Atoms 𝓤 → Contract 𝓤) → Fn → Type 2
+Stands 𝓤 H Q by P e = (𝓜 : Model 𝓤 H) (𝓖 : GhostRules 𝓤 H) (𝓡 : Running 𝓤 H 𝓜) (γ : Rt.Env) (f : Name) → Closed 𝓤 H (tables 𝓤 H 𝓜 𝓡 γ .C) (tables 𝓤 H 𝓜 𝓡 γ .Λ) f e
+    → (r : Routine) → γ by ≡ r → Triple 𝓤 (𝓡 .run r) (Q (𝓖 .A)) → Triple 𝓤 (tables 𝓤 H 𝓜 𝓡 γ .C f) (P (𝓖 .A))
+
+pub stands : {M : Type 1} (𝓤 : URA M) (H : Heap 𝓤) (Q : Atoms 𝓤 → Contract 𝓤) (by : Name) (P : Atoms 𝓤 → Contract 𝓤) (e : Fn)
+    → ((A : Atoms 𝓤) (W : Given 𝓤 H A) (C : Calls 𝓤 H) (Λ : Loops 𝓤 H) → FmC 𝓤 H (W .laws) C → Triple 𝓤 (C by) (Q A) → Triple 𝓤 (WpFn 𝓤 H C Λ e) (P A)) → Stands 𝓤 H Q by P e
+unfolding tablesOf
+stands 𝓤 H Q by P e meets 𝓜 𝓖 𝓡 γ f closed r is met =
+    let 𝓣 : Tables 𝓤 H = tablesOf 𝓤 H 𝓜 (tables 𝓤 H 𝓜 𝓡 γ) in
+    let W : Given 𝓤 H (𝓖 .A) = givenOf 𝓤 H 𝓜 𝓖 in
+    entered 𝓤 H (P (𝓖 .A)) (tables 𝓤 H 𝓜 𝓡 γ .C) (tables 𝓤 H 𝓜 𝓡 γ .Λ) f e closed (meets (𝓖 .A) W (𝓣 .C) (𝓣 .Λ) (fmOf 𝓤 H (W .laws) 𝓣) (cited 𝓤 H (Q (𝓖 .A)) 𝓜 𝓡 γ by r is met))
+
+-- that a function's contract as its author wrote it is its shape's: what holds of either clause of one holds of the other's. A contract that says something else is refused here, with the part that differs
+abbrev pub Said : (T : Ended) (M : Type 1) → ((𝓤 : URA M) → Clauses 𝓤 T) → ((𝓤 : URA M) (H : Heap 𝓤) → Atoms 𝓤 → (Memory → SProp 𝓤) → (Routine → Fun 𝓤) → Clauses 𝓤 T) → Type 2
+Said T M shaped written = (𝓤 : URA M) (H : Heap 𝓤) (A : Atoms 𝓤) (at-mem : Memory → SProp 𝓤) (run : Routine → Fun 𝓤) (κs : Lfts (T .signature .lifetimes)) (a : Args (T .signature) κs)
+    (g : written 𝓤 H A at-mem run κs a .ghost) (g′ : shaped 𝓤 κs a .ghost) (r : Res (T .signature) κs) (e : AtExit T κs) (P : SProp 𝓤 → Type 0)
+    → (P (written 𝓤 H A at-mem run κs a .requires g) → P (shaped 𝓤 κs a .requires g′)) × (P (written 𝓤 H A at-mem run κs a .ensures g r e) → P (shaped 𝓤 κs a .ensures g′ r e))
+
+-- ---- a rule
 -- what the rule is given of the pace
 abbrev pub seen : Bool → List Par
 seen true = pace ∷ []
@@ -209,18 +230,6 @@ module _ (c : Rule) {M : Type 1} (𝓤 : URA M) (H : Heap 𝓤) (A : Atoms 𝓤)
       by ! (subst (λ (vs : List Val). ent 𝓤 (⋆ 𝓤 H A entry) (WpFn 𝓤 H C Λ (fn c) vs (Promise c 𝓤 H A .post y))) (sym e)
       (walk c 𝓤 H A W (y .0 .0 .0) (y .0 .1 .0) (x .ptr .0) (x .ptr .1) (x .name) (x .now) b (r .1) (Promise c 𝓤 H A .post y) (exits y) C Λ fm known))))
 
--- THE THEOREM: in an environment γ in which the function's name means its code, and the rule's name a routine that meets the rule's contract, the function keeps its promise
-pub thins : (c : Rule) {M : Type 1} (𝓤 : URA M) (H : Heap 𝓤) (𝓜 : Model 𝓤 H) (𝓖 : GhostRules 𝓤 H) (𝓡 : Running 𝓤 H 𝓜) (γ : Rt.Env) (f : Name) → Closed 𝓤 H (tables 𝓤 H 𝓜 𝓡 γ .C) (tables 𝓤 H 𝓜 𝓡 γ .Λ) f (fn c)
-    → (rule : Routine) → γ (c .by) ≡ rule → Triple 𝓤 (𝓡 .run rule) (Rule-of c 𝓤 H (𝓖 .A)) → Triple 𝓤 (tables 𝓤 H 𝓜 𝓡 γ .C f) (Promise c 𝓤 H (𝓖 .A))
-unfolding tablesOf
-thins c 𝓤 H 𝓜 𝓖 𝓡 γ f closed rule is-rule met =
-    let 𝓣 : Tables 𝓤 H = tablesOf 𝓤 H 𝓜 (tables 𝓤 H 𝓜 𝓡 γ) in
-    let W : Given 𝓤 H (𝓖 .A) = givenOf 𝓤 H 𝓜 𝓖 in
-    entered 𝓤 H (Promise c 𝓤 H (𝓖 .A)) (tables 𝓤 H 𝓜 𝓡 γ .C) (tables 𝓤 H 𝓜 𝓡 γ .Λ) f (fn c) closed
-    (meets c 𝓤 H (𝓖 .A) W (𝓣 .C) (𝓣 .Λ) (fmOf 𝓤 H (W .laws) 𝓣) (cited 𝓤 H (Rule-of c 𝓤 H (𝓖 .A)) 𝓜 𝓡 γ (c .by) rule is-rule met))
-
--- that a function's contract as its author wrote it is its shape's: what holds of either clause of one holds of the other's. A contract that says something else is refused here, with the part that differs
-abbrev pub Said : (T : Ended) (M : Type 1) → ((𝓤 : URA M) → Clauses 𝓤 T) → ((𝓤 : URA M) (H : Heap 𝓤) → Atoms 𝓤 → (Memory → SProp 𝓤) → (Routine → Fun 𝓤) → Clauses 𝓤 T) → Type 2
-Said T M shaped written = (𝓤 : URA M) (H : Heap 𝓤) (A : Atoms 𝓤) (at-mem : Memory → SProp 𝓤) (run : Routine → Fun 𝓤) (κs : Lfts (T .signature .lifetimes)) (a : Args (T .signature) κs)
-    (g : written 𝓤 H A at-mem run κs a .ghost) (g′ : shaped 𝓤 κs a .ghost) (r : Res (T .signature) κs) (e : AtExit T κs) (P : SProp 𝓤 → Type 0)
-    → (P (written 𝓤 H A at-mem run κs a .requires g) → P (shaped 𝓤 κs a .requires g′)) × (P (written 𝓤 H A at-mem run κs a .ensures g r e) → P (shaped 𝓤 κs a .ensures g′ r e))
+-- THE THEOREM: a thin function stands on its rule
+pub thins : (c : Rule) {M : Type 1} (𝓤 : URA M) (H : Heap 𝓤) → Stands 𝓤 H (Rule-of c 𝓤 H) (c .by) (Promise c 𝓤 H) (fn c)
+thins c 𝓤 H = stands 𝓤 H (Rule-of c 𝓤 H) (c .by) (Promise c 𝓤 H) (fn c) (meets c 𝓤 H)

@@ -14,4 +14,4 @@ said 𝓤 H A mem run κs a g g′ r e P = (λ h. h, λ h. h)
 
 pub lend-at-blame-spec : {M : Type 1} → stated.statement M
 unfolding code.routine
-lend-at-blame-spec 𝓤 H 𝓜 𝓖 𝓡 = lends blame 𝓤 H 𝓜 𝓖 𝓡 code.env #f thin.name (code.unfolded 𝓤 H 𝓜 𝓡) thin.routine code.calls-lent-pace·widen-wait (thin-met.met 𝓤 H 𝓜 𝓖 𝓡)
+lend-at-blame-spec 𝓤 H 𝓜 𝓖 𝓡 = lends blame thin.name 𝓤 H 𝓜 𝓖 𝓡 code.env #f (code.unfolded 𝓤 H 𝓜 𝓡) thin.routine code.calls-lent-pace·widen-wait (thin-met.met 𝓤 H 𝓜 𝓖 𝓡)
