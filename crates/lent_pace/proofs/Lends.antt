@@ -35,7 +35,7 @@ use denote.Triple.Call.{calls-at}
 use denote.Triple.Clauses.{Ended, Clauses, Lasts, atExit, ensured, lasts}
 use denote.Triple.Walked.{says}
 use Rattle.model.specs.declared.Pace.{Pace}
-use Rattle.lent_pace.proofs.Values.{Par, pace, Rest, vals, Known, slots, into, R, val, learnt, Handed, handed, unsaid, peeks-all, by-value, answers, ByValue, locals, past, copies, rooms, forgets, further, found, after, allocs-rest, passes-rest, frees-rest, valued, local-at, loads-rest}
+use Rattle.lent_pace.proofs.Values.{Par, pace, Rest, vals, Known, slots, into, R, val, learnt, Handed, handed, unsaid, peeks-all, by-value, answers, ByValue, locals, past, copies, further, found, after, allocs-rest, passes-rest, frees-rest, valued, local-at, loads-rest}
 use Rattle.lent_pace.proofs.Thin.{Stands, stands, Rule, given, ended as thin-ended, clauses as thin-clauses, Promise as Thin}
 
 module _ (c : Rule) where
@@ -135,8 +135,8 @@ module _ (c : Rule) {M : Type 1} (𝓤 : URA M) (H : Heap 𝓤) (A : Atoms 𝓤)
         use3 W (later (told-so (Is R (hs .0) (val (hs .0) ∷ [])) (‵ (fat fullShare (pace .ty) n0 0 (val (hs .0)))))) (back 𝓤 H A W n0 (ν ∷ []) δ (hs .0)) $ await ! tt $ learn ! (λ are.
         -- [the local; true; the result; ..; the others 4; the last local 5; the result's 7; what frees the lent one 9; the pace 10; _0 12]
         assigns ! (of-opd ! (load ! (local-at W ! (after W ps bs _ 0) (stop !)) (look ! 0 refl))) (from ! (stop !)) (init ! 12 refl (pace .typed 𝓤 H A W (hs .0) (val (hs .0)) are)) $
-        returns ! (look ! 12 refl) $ forget ! 0 refl $ forget ! 5 refl $ forget ! 7 refl $ forget ! 10 refl $ forget ! 12 refl $ move ! (4 ∷ []) $ use1 W (raw (rooms W ps bs)) (forgets W ps b bs) $
-        move ! (12 ∷ 13 ∷ []) $ free1 ! $ move ! (10 ∷ 11 ∷ []) $ free1 ! $ frees-rest W ! ps bs (move ! (0 ∷ 8 ∷ []) $ free1 ! $ move ! (5 ∷ 6 ∷ []) $ free1 ! $ move ! (3 ∷ 4 ∷ []) $ free1 ! $ free0 ! $
+        returns ! (look ! 12 refl) $ forget ! 0 refl $ forget ! 5 refl $ forget ! 7 refl $ forget ! 10 refl $ forget ! 12 refl $ move ! (12 ∷ 13 ∷ []) $ free1 ! $ move ! (10 ∷ 11 ∷ []) $ free1 ! $
+        move ! (4 ∷ []) $ frees-rest W ! ps b bs (move ! (0 ∷ 8 ∷ []) $ free1 ! $ move ! (5 ∷ 6 ∷ []) $ free1 ! $ move ! (3 ∷ 4 ∷ []) $ free1 ! $ free0 ! $
         keep ! (0 ∷ []) $ by ! (exits (hs .0) (subst (λ (w : Rest ps). hs .0 ≡ c .gives (given c w h)) (to-all n0 ν .into-is) e) are)))))))))))))))))
 
 module _ (c : Rule) (f : Name) {M : Type 1} (𝓤 : URA M) (H : Heap 𝓤) (A : Atoms 𝓤) (W : Given 𝓤 H A) (C : Calls 𝓤 H) (Λ : Loops 𝓤 H) (fm : FmC 𝓤 H (W .laws) C) (known : Triple 𝓤 (C f) (Thin c 𝓤 H A)) where

@@ -44,7 +44,7 @@ use denote.Triple.Table.{entered, cited}
 use denote.Triple.Walked.{says}
 use denote.Exit.{yes}
 use Rattle.model.specs.declared.Pace.{Pace}
-use Rattle.lent_pace.proofs.Values.{Par, pace, Rest, vals, Known, paste, vals-paste, known-paste, slots, into, R, val, learnt, Handed, handed, unsaid, peeks-all, by-value, answers, ByValue, locals, past, copies, Blocks, env, rooms, helds, forgets, Found, further, found, after, allocs-rest, passes-rest, frees-rest, swapped, valued, local-at, loads-rest}
+use Rattle.lent_pace.proofs.Values.{Par, pace, Rest, vals, Known, paste, vals-paste, known-paste, slots, into, R, val, learnt, Handed, handed, unsaid, peeks-all, by-value, answers, ByValue, locals, past, copies, Blocks, env, rooms, helds, Found, further, found, after, allocs-rest, passes-rest, frees-rest, swapped, valued, local-at, loads-rest}
 
 -- ---- what a function of either shape is shown to be
 -- code e stands on the callee by: in an environment γ in which a name f means e, and by a routine that keeps the promise Q, f keeps the promise P
@@ -203,8 +203,8 @@ module _ (c : Rule) {M : Type 1} (𝓤 : URA M) (H : Heap 𝓤) (A : Atoms 𝓤)
         assigns ! (of-opd ! (load ! (local-at W ! (after W ps bs _ 0) (stop !)) (look ! 8 refl))) (from ! (hop ! (look ! 4 refl) (stop !))) (store-raw ! 3 refl (pace .typed 𝓤 H A W r v is)) $
         assigns ! (of-opd ! (unit-lit !)) (from ! (stop !)) (init ! 11 refl (tt, tt)) $ move ! (3 ∷ 0 ∷ 5 ∷ 6 ∷ 7 ∷ []) $ closes ! tt R r (v ∷ []) l o $
         -- [obs; the borrow 1; the token 2; the others 3; the copy 4; the reference's local 5; the result's 6; what frees the reference's 8; _0 9]
-        returns ! (look ! 9 refl) $ forget ! 5 refl $ forget ! 6 refl $ forget ! 9 refl $ move ! (3 ∷ []) $ use1 W (raw (rooms W ps bs)) (forgets W ps b bs) $ move ! (4 ∷ []) $ use1 W (raw (rooms W (seen (c .old)) ss)) (forgets W (seen (c .old)) (seen-at (c .old) h) ss) $
-        move ! (9 ∷ 10 ∷ []) $ free1 ! $ move ! (5 ∷ 8 ∷ []) $ free1 ! $ move ! (1 ∷ []) $ frees-rest W ! ps bs (move ! (4 ∷ 5 ∷ []) $ free1 ! $ frees-rest W ! (seen (c .old)) ss (free0 ! $
+        returns ! (look ! 9 refl) $ forget ! 5 refl $ forget ! 6 refl $ forget ! 9 refl $ move ! (9 ∷ 10 ∷ []) $ free1 ! $ move ! (5 ∷ 8 ∷ []) $ free1 ! $
+        move ! (3 ∷ []) $ frees-rest W ! ps b bs (move ! (4 ∷ 5 ∷ []) $ free1 ! $ move ! (3 ∷ []) $ frees-rest W ! (seen (c .old)) (seen-at (c .old) h) ss (free0 ! $
         keep ! (0 ∷ 2 ∷ []) $ by ! (exits r (subst (λ (w : Rest (ps ++ seen (c .old))). r ≡ c .gives w) (to-all was .into-is) e)))))))))))))))))
 
 module _ (c : Rule) {M : Type 1} (𝓤 : URA M) (H : Heap 𝓤) (A : Atoms 𝓤) (W : Given 𝓤 H A) (C : Calls 𝓤 H) (Λ : Loops 𝓤 H) (fm : FmC 𝓤 H (W .laws) C) (known : Triple 𝓤 (C (c .by)) (Rule-of c 𝓤 H A)) where

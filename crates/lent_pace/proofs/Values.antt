@@ -18,14 +18,14 @@ use lib.Dec.{T}
 use lib.ListN.{getD}
 use mir.Syntax.{Ty, tyInt, w64, Local, local, valueLocal, Opd as Operand, copy, place, Step as PStep}
 use mir.Val.{Val, vint, hasTy, WT}
-use base.Logic.{SProp, ent, sep, emp, id⊢, via, mono∗, monoR, emp∗}
+use base.Logic.{SProp, ent, sep, emp, id⊢, via, mono∗, emp∗}
 use base.Fml.{Fml, ftrue, fat, froom, fdies}
 use prog.Wp.{Heap, Env, walk, noLocal}
 use ghost.Atoms.{Atoms, sem}
 use contract.Monad.{fact}
 use contract.Lifetimes.{Lfts}
 use types.Kit.{Given, Item, ‵, raw, _⊛_, ⋆, Goal, frees, allocs, passes, Seq, _$_, _∵_, !, qed, move, use0, use1, use3, split3, drop, done}
-use types.Run.{Walks, Finds, Opds, look, stop, load, and-then, init, alloc1, pass1, pass0, free1}
+use types.Run.{Walks, Finds, Opds, look, stop, load, and-then, init, alloc1, pass1, pass0, forget, free1}
 use denote.RattleType.{RattleType, Denots, Valss, flat, owns}
 use denote.Exit.{yes, unchanged, Exit, Last, left}
 use denote.Laws.{Is, Ises, Are, Tells, Makes, showss, owns-show}
@@ -188,10 +188,6 @@ module _ {M : Type 1} {𝓤 : URA M} {H : Heap 𝓤} {A : Atoms 𝓤} (W : Given
   helds [] b bs = emp 𝓤
   helds (p ∷ ps) b bs = sep 𝓤 (H .at fullShare (p .ty) (bs .0) zero (p .val (b .0))) (sep 𝓤 (H .dies (p .ty) (bs .0)) (helds ps (b .1) (bs .1)))
 
-  pub forgets : (ps : List Par) (b : Rest ps) (bs : Blocks ps) → ent 𝓤 (helds ps b bs) (rooms ps bs)
-  forgets [] b bs = id⊢ 𝓤 (emp 𝓤)
-  forgets (p ∷ ps) b bs = mono∗ 𝓤 (W .laws .at-room (p .ty) (bs .0) zero (p .val (b .0))) (monoR 𝓤 (H .dies (p .ty) (bs .0)) (forgets ps (b .1) (bs .1)))
-
   -- they lie in the environment from j on
   abbrev pub Found : Env 𝓤 H → ℕ → (ps : List Par) → Blocks ps → Type 0
   Found E j [] bs = Unit {0}
@@ -221,9 +217,10 @@ module _ {M : Type 1} {𝓤 : URA M} {H : Heap 𝓤} {A : Atoms 𝓤} (W : Given
         use1 W (‵ (froom (p .ty) (bs .0) zero) ⊛ ‵ (fdies (p .ty) (bs .0)) ⊛ raw (rooms ps (bs .1))) (id⊢ 𝓤 _) $ split3 t $ pass1 t (init t 0 refl (p .typed 𝓤 H A W (b .0) (p .val (b .0)) (is .0))) $
         move t (2 ∷ []) $ passes-rest ps (b .1) (is .1) (bs .1) E (move t (1 ∷ 2 ∷ 0 ∷ []) $ use3 W (raw (helds (p ∷ ps) b bs)) (id⊢ 𝓤 _) $ s)
 
-    pub frees-rest : (ps : List Par) (bs : Blocks ps) {E : Env 𝓤 H} {g : Goal 𝓤 H} {Γ : List (Item 𝓤)} → Seq K W Γ (frees E g) → Seq K W (raw (rooms ps bs) ∷ Γ) (frees (env ps bs E) g)
-    frees-rest [] bs s = drop t $ s
-    frees-rest (p ∷ ps) bs s = use1 W (‵ (froom (p .ty) (bs .0) zero) ⊛ ‵ (fdies (p .ty) (bs .0)) ⊛ raw (rooms ps (bs .1))) (id⊢ 𝓤 _) $ split3 t $ free1 t $ frees-rest ps (bs .1) s
+    pub frees-rest : (ps : List Par) (b : Rest ps) (bs : Blocks ps) {E : Env 𝓤 H} {g : Goal 𝓤 H} {Γ : List (Item 𝓤)} → Seq K W Γ (frees E g) → Seq K W (raw (helds ps b bs) ∷ Γ) (frees (env ps bs E) g)
+    frees-rest [] b bs s = drop t $ s
+    frees-rest (p ∷ ps) b bs s =
+        use1 W (‵ (fat fullShare (p .ty) (bs .0) zero (p .val (b .0))) ⊛ ‵ (fdies (p .ty) (bs .0)) ⊛ raw (helds ps (b .1) (bs .1))) (id⊢ 𝓤 _) $ split3 t $ forget t 0 refl $ free1 t $ frees-rest ps (b .1) (bs .1) s
 
     -- operands are read in a context as in any other that means the same
     pub turned : {Γ Δ : List (Item 𝓤)} {E : Env 𝓤 H} {xs : List Operand} {vs : List Val} → ent 𝓤 (⋆ 𝓤 H A Γ) (⋆ 𝓤 H A Δ) → ent 𝓤 (⋆ 𝓤 H A Δ) (⋆ 𝓤 H A Γ) → Opds K W Δ E xs vs → Opds K W Γ E xs vs
