@@ -67,7 +67,7 @@ module _ (c : Rule) where
   abbrev pub Promise : {M : Type 1} (𝓤 : URA M) (H : Heap 𝓤) → Atoms 𝓤 → Contract 𝓤
   Promise 𝓤 H A = ByValue (pace ∷ c .others) 𝓤 H A (λ z. c .asks 𝓤 (given c (z .1) (z .0))) (λ z. c .gives (given c (z .1) (z .0)))
 
--- ---- a local pace, lent as a `&mut Pace` and taken back
+-- ---- a local pace at b, lent as a `&mut Pace`, and taken back at the reference's last value once the lifetime is over
 module _ {M : Type 1} (𝓤 : URA M) (H : Heap 𝓤) (A : Atoms 𝓤) (W : Given 𝓤 H A) (b : ℕ) where
   lends-local : (ℓ : Lifetime) (κ : Lft) (h : Pace) → Is R h (val h ∷ []) → ent 𝓤 (H .at fullShare (pace .ty) b 0 (val h)) (H .⇛ (ex 𝓤 (LentRef 𝓤 H A W R ℓ κ h b 0)))
   unfolding partOf
