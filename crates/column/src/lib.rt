@@ -8,17 +8,27 @@ ghost use lib.ListN.{length, set, take, replicate};
 ghost use lib.Dec.{eqb};
 ghost use Rattle.column.specs.Edits.{removeAt, inserted, keptBy};
 
-// Takes the word at `at` out: those after it move one place down, and the last place becomes 0.
-pub fn remove_at(col: &mut [u64], at: usize)
-    requires { ⌜ at < length (now col) ⌝ }
-    ensures { λ _. ⌜ now (col .exit) ≡ removeAt at (now (col .entry)) ++ (0 ∷ []) ⌝ }
+// Takes the first word out: those after it move one place down, and the last place becomes 0. It starts at its slice's own first place: the compiler sees
+// one move of memory in such a loop, and not in one that starts at a place within.
+fn remove_first(col: &mut [u64])
+    requires { ⌜ 0 < length (now col) ⌝ }
+    ensures { λ _. ⌜ now (col .exit) ≡ removeAt 0 (now (col .entry)) ++ (0 ∷ []) ⌝ }
 {
-    let mut k = at;
+    let mut k = 0;
     while k + 1 < col.len() {
         col[k] = col[k + 1];
         k += 1;
     }
     col[k] = 0;
+}
+
+// Takes the word at `at` out: those after it move one place down, and the last place becomes 0.
+pub fn remove_at(col: &mut [u64], at: usize)
+    requires { ⌜ at < length (now col) ⌝ }
+    ensures { λ _. ⌜ now (col .exit) ≡ removeAt at (now (col .entry)) ++ (0 ∷ []) ⌝ }
+{
+    let n = col.len();
+    remove_first(&mut col[at..n]);
 }
 
 // Copies `src` over `dst`, which is as long.
@@ -33,20 +43,29 @@ pub fn copy_over(dst: &mut [u64], src: &[u64])
     }
 }
 
-// Puts `value` at `at`: the words from there on move one place up, and the last falls off. From the end down, so that it is one move of memory.
-pub fn insert_at(col: &mut [u64], at: usize, value: u64)
-    requires { ⌜ at ≤ length (now col) ⌝ }
-    ensures { λ _. ⌜ now (col .exit) ≡ inserted at value (now (col .entry)) ⌝ }
+// Puts `value` at the first place: all words move one place up, and the last falls off. From the end down, and to its slice's own first place, so that the
+// compiler sees one move of memory.
+fn insert_first(col: &mut [u64], value: u64)
+    ensures { λ _. ⌜ now (col .exit) ≡ inserted 0 value (now (col .entry)) ⌝ }
 {
     let mut i = col.len();
-    if at < i {
+    if 0 < i {
         i -= 1;
-        while at < i {
+        while 0 < i {
             col[i] = col[i - 1];
             i -= 1;
         }
         col[i] = value;
     }
+}
+
+// Puts `value` at `at`: the words from there on move one place up, and the last falls off.
+pub fn insert_at(col: &mut [u64], at: usize, value: u64)
+    requires { ⌜ at ≤ length (now col) ⌝ }
+    ensures { λ _. ⌜ now (col .exit) ≡ inserted at value (now (col .entry)) ⌝ }
+{
+    let n = col.len();
+    insert_first(&mut col[at..n], value);
 }
 
 // Puts 0 in the places from `from` on.

@@ -9,6 +9,7 @@ use native.Mathlib.Omega.{arith}
 use lib.ListN.{length, getD}
 use lib.Dec.{ltb}
 use borrow.Author.Tests.{ltb-true, ltb-false, lt-ltb, le-ltb, eqb-true, eqb-false, ne-eqb}
+use Rattle.model.specs.Numbers.{greater}
 use Rattle.model.specs.Hash.{key, same, less}
 use Rattle.column.specs.Edits.{removeAt, insertAt}
 use Rattle.model.specs.Records.{found, remove, insert}
@@ -42,6 +43,11 @@ front-at n r l = cond (ltb r n) (At (getD l r blank)) Nothing
 abbrev pub stored : Oldest → ℕ
 stored Never = 0
 stored (Since t) = suc t
+
+-- the same, no lower than m where there is one
+abbrev pub floored : ℕ → ℕ → ℕ
+floored m zero = zero
+floored m (suc u) = greater (suc u) m
 
 -- ---- where the entries rise
 

@@ -14,7 +14,7 @@ ghost use Rattle.model.specs.Seats.{oldest};
 ghost use Rattle.model.specs.Pace.{was-front};
 ghost use Rattle.model.specs.Layout.{decode, entry-at, field, blank};
 ghost use Rattle.laws.specs.Tables.{removed, put-in, kept-rows};
-ghost use Rattle.records.specs.Places.{Parts, Finds, front-at, stored};
+ghost use Rattle.records.specs.Places.{Parts, Finds, front-at, stored, floored};
 ghost use Rattle.records.specs.Cleared.{all-marked};
 use model::Entry;
 use model::Front;
@@ -243,11 +243,12 @@ fn oldest_by(any: bool, low: u64) -> Oldest
     }
 }
 
-// `oldest`. The loop holds plain numbers, and the answer is made after it: an enum in the loop would go through memory at every turn. A time may
-// be any number, so whether there is one is a flag of its own.
-pub fn oldest_of(words: &[u64], count: usize, owner: u64) -> Oldest
+// `oldest`, no lower than a floor that is as it is stored: below it the scan ends, since how much older a record is does not matter. The loop holds
+// plain numbers, and the answer is made after it: an enum in the loop would go through memory at every turn. A time may be any number, so whether
+// there is one is a flag of its own.
+pub fn oldest_from(words: &[u64], count: usize, owner: u64, floor: u64) -> Oldest
     requires { ⌜ (length (now words) ≡ 4096) × (count ≤ 256) ⌝ }
-    ensures { λ r. ⌜ stored r ≡ oldest owner (take count (decode (now (words .entry)) .entries)) ⌝ }
+    ensures { λ r. ⌜ stored r ≡ floored floor (oldest owner (take count (decode (now (words .entry)) .entries))) ⌝ }
 {
     let mut any = false;
     let mut low = u64::MAX;
@@ -258,6 +259,10 @@ pub fn oldest_of(words: &[u64], count: usize, owner: u64) -> Oldest
         let t = words[i + at::TIMES];
         low = low_after(o, owner, t, low);
         any = any_after(o, owner, any);
+        if low < floor {
+            let least = floor - 1;
+            return Oldest::Since(least);
+        }
     }
     oldest_by(any, low)
 }

@@ -7,8 +7,11 @@ use native.Mathlib.Nat.{not-suc-le-zero, le-of-suc-le-suc}
 use native.Mathlib.Omega.{arith}
 use lib.ListN.{length, getD, set, take, drop, replicate}
 use lib.Seq.{getD-take, drop-at}
-use lib.Dec.{eqb}
-use borrow.Author.Tests.{eqb-true}
+use lib.Dec.{eqb, leb, ltb}
+use borrow.Author.Tests.{eqb-true, leb-true, leb-false, ltb-true, le-ltb}
+use mathlib.Core.Logic.{inl, inr}
+use Rattle.model.specs.Numbers.{greater}
+use Rattle.laws.specs.Numbers.{both, greater-first, greater-second}
 use Rattle.model.specs.Lists.{pad}
 use Rattle.column.specs.Edits.{removeAt, insertAt, keepBy}
 use Rattle.model.specs.Hash.{key, same}
@@ -23,7 +26,7 @@ use Rattle.model.specs.declared.Entry.{Entry}
 use Rattle.laws.specs.Tables.{with-words, with-starts, with-bodies, removed, put-in, kept-rows}
 use Rattle.laws.specs.Groups.{queue-in, removed-in, put-in-in, kept-in}
 use Rattle.laws.specs.Whole.{Shaped, Whole, Holds, lifted, words-shaped}
-use Rattle.records.specs.Places.{Finds, here-found, free-found}
+use Rattle.records.specs.Places.{Finds, floored, here-found, free-found}
 use Rattle.records.specs.declared.Place.the-variants.{Here, Free}
 use Rattle.laws.specs.Tables.{seat-reset, kept-seats}
 use Rattle.laws.specs.Marks.{keep-by-take}
@@ -130,13 +133,63 @@ put-is at e q r f = ap (λ (es : List Entry). queue (q .total + e .estimate) es 
 
 -- ---- seats
 
+-- the stored time at or below which the oldest that is left leaves a seat's start as it is: that of the one removed, where the start is as late
+unfoldable pub start-floor : ℕ → ℕ → ℕ
+start-floor start removed = cond (ltb removed start) (suc removed) removed
+
+floor-low : (start removed floor : ℕ) → floor ≡ start-floor start removed → (floor ≤ suc removed) × (floor ≡ suc removed → suc removed ≤ start)
+unfolding start-floor
+floor-low start removed floor e = elim (both (ltb removed start)) [
+  | inl q ↦ let e′ = rw q at e in (omega (arith, e′), λ _. ltb-true removed start q)
+  | inr q ↦ let e′ = rw q at e in (omega (arith, e′), λ f. absurd (omega (arith, e′, f)))
+]
+
+-- one left that is as old leaves it
+stays : (now t u start : ℕ) → suc u ≤ t → (suc u ≡ t → t ≤ start) → start-reset now t (suc u) start ≡ start
+stays now t u start h k = elim (both (eqb t (suc u))) [
+  | inl q ↦ let e = eqb-true t (suc u) q in rw (le-ltb t (suc u) h, q) (greater-first start (suc u) (omega (arith, e, k (sym e))))
+  | inr q ↦ rw (le-ltb t (suc u) h, q)
+]
+
+-- so that the oldest is wanted above the floor alone
+start-kept : (now removed start floor n : ℕ) → floor ≡ start-floor start removed → start-reset now (suc removed) (floored floor n) start ≡ start-reset now (suc removed) n start
+start-kept now removed start floor zero e = refl
+start-kept now removed start floor (suc u) e = elim (both (leb (suc u) floor)) [
+  | inl q ↦
+      let low = leb-true (suc u) floor q in
+      let (most, late) = floor-low start removed floor e in
+      let one : floor ≡ suc (floor - 1) = omega (arith, low) in
+      ap (λ (o : ℕ). start-reset now (suc removed) o start) (greater-second (suc u) floor low ∙ one)
+      ∙ stays now (suc removed) (floor - 1) start (omega (arith, one, most)) (λ s. late (one ∙ s))
+      ∙ sym (stays now (suc removed) u start (omega (arith, low, most)) (λ s. late (omega (arith, low, most, s))))
+  | inr q ↦ ap (λ (o : ℕ). start-reset now (suc removed) o start) (greater-first (suc u) floor (omega (arith, leb-false (suc u) floor q)))
+]
+
+greater-some : (u m : ℕ) → 0 < greater (suc u) m
+greater-some u m = elim (both (leb (suc u) m)) [
+  | inl q ↦ rw (greater-second (suc u) m (leb-true (suc u) m q)) (omega (arith, leb-true (suc u) m q))
+  | inr q ↦ rw (greater-first (suc u) m (omega (arith, leb-false (suc u) m q))) (omega arith)
+]
+
+body-kept : (floor n body : ℕ) → body-reset (floored floor n) body ≡ body-reset n body
+body-kept floor zero body = refl
+body-kept floor (suc u) body =
+    let one : greater (suc u) floor ≡ suc (greater (suc u) floor - 1) = omega (arith, greater-some u floor) in
+    ap (λ (o : ℕ). body-reset o body) one
+
 module _ (w : Window) where
-  pub reset-in : (owner removed now old : ℕ) → old ≡ oldest owner (w .queue .pending)
+  pub reset-in : (owner removed now start floor old : ℕ) → start ≡ getD (w .queue .starts) owner 0 → floor ≡ start-floor start removed
+      → old ≡ floored floor (oldest owner (w .queue .pending))
       → seat-reset owner removed now old (table w) ≡ table (with-queue (reset-owner-queue-start owner removed now (w .queue)) w)
   unfolding seat-reset with-starts with-bodies table head-words counts-words small-words reset-owner-queue-start
-  reset-in owner removed now old e = ap (λ (o : ℕ). table (with-queue (queue (w .queue .total) (w .queue .pending)
-      (set (w .queue .starts) owner (start-reset now (suc removed) o (getD (w .queue .starts) owner 0)))
-      (set (w .queue .bodies) owner (body-reset o (getD (w .queue .bodies) owner 0)))) w)) e
+  reset-in owner removed now start floor old s f e =
+      let n = oldest owner (w .queue .pending) in
+      let here = getD (w .queue .starts) owner 0 in
+      let body = getD (w .queue .bodies) owner 0 in
+      let at-floor = f ∙ ap (λ (x : ℕ). start-floor x removed) s in
+      let starts-so = ap (λ (o : ℕ). start-reset now (suc removed) o here) e ∙ start-kept now removed here floor n at-floor in
+      let bodies-so = ap (λ (o : ℕ). body-reset o body) e ∙ body-kept floor n body in
+      λ i. table (with-queue (queue (w .queue .total) (w .queue .pending) (set (w .queue .starts) owner (starts-so i)) (set (w .queue .bodies) owner (bodies-so i))) w)
 
   pub kept-seats-in : (fs : List ℕ) → kept-seats fs (table w)
       ≡ table (with-queue (queue (w .queue .total) (w .queue .pending) (keep-seats (flagged fs) 0 (w .queue .starts)) (keep-seats (flagged fs) 0 (w .queue .bodies))) w)
@@ -156,6 +209,10 @@ module _ (w : Window) where
 pub total-is : (ws : List ℕ) → word 3 (decode ws) ≡ window-of ws .queue .total
 unfolding window-of read
 total-is ws = refl
+
+pub start-is : (ws : List ℕ) (seat : ℕ) → getD (decode ws .starts) seat 0 ≡ getD (window-of ws .queue .starts) seat 0
+unfolding window-of read
+start-is ws seat = refl
 
 module _ (ws : List ℕ) (h : Whole ws) where
   -- entries, count and total replaced, one after the other

@@ -12,8 +12,8 @@ ghost use Rattle.model.specs.Calls.{started, body-noted};
 ghost use Rattle.model.specs.Layout.{window-of, blank};
 ghost use Rattle.model.specs.Window.{queue, with-queue, with-high};
 ghost use Rattle.laws.specs.Whole.{Whole, Holds};
-ghost use Rattle.records.specs.Places.{Finds, stored};
-ghost use Rattle.state_queue.specs.Steps.{entries-put};
+ghost use Rattle.records.specs.Places.{Finds, stored, floored};
+ghost use Rattle.state_queue.specs.Steps.{entries-put, start-floor};
 use model::Entry;
 use model::Front;
 use model::Hash;
@@ -78,12 +78,13 @@ pub fn pending_count_for(words: &[u64], owner: u64) -> u64
     records::pending_count_for(words, n, owner)
 }
 
-pub fn oldest_of(words: &[u64], owner: u64) -> Oldest
+// The owner's oldest, no lower than a floor.
+pub fn oldest_from(words: &[u64], owner: u64, floor: u64) -> Oldest
     requires { ⌜ Whole (now words) ⌝ }
-    ensures { λ r. ⌜ stored r ≡ oldest owner (window-of (now (words .entry)) .queue .pending) ⌝ }
+    ensures { λ r. ⌜ stored r ≡ floored floor (oldest owner (window-of (now (words .entry)) .queue .pending)) ⌝ }
 {
     let n = pending_count(words);
-    records::oldest_of(words, n, owner)
+    records::oldest_from(words, n, owner, floor)
 }
 
 // ---- one out, one in, some kept
@@ -136,12 +137,26 @@ pub fn keep_entries(words: &mut [u64], marks: &[u64], count: u64, total: u64)
 
 // ---- the seats
 
-// `reset-owner-queue-start`: an entry of the owner, asked at `removed`, has gone.
+// `start-floor`: where the oldest that is left is no later than this, the start stays as it is.
+fn start_floor(start: u64, removed: u64) -> u64
+    requires { ⌜ removed ≤ max-clock ⌝ }
+    ensures { λ r. ⌜ r ≡ start-floor start removed ⌝ }
+{
+    if removed < start {
+        return removed + 1;
+    }
+    removed
+}
+
+// `reset-owner-queue-start`: an entry of the owner, asked at `removed`, has gone. The oldest that is left is sought only down to the floor: in most windows
+// another entry was asked together with the one that went, and the first of them ends the search.
 pub fn reset_owner_queue_start(words: &mut [u64], owner: usize, removed: u64, clock: u64)
     requires { ⌜ Whole (now words) × ((owner < 256) × ((clock ≤ max-clock) × (removed ≤ max-clock))) ⌝ }
     ensures { λ _. ⌜ Holds (with-queue (reset-owner-queue-start owner removed clock (window-of (now (words .entry)) .queue)) (window-of (now (words .entry)))) (now (words .exit)) ⌝ }
 {
-    let left = oldest_of(words, owner as u64);
+    let start = seats::start_of(words, owner);
+    let floor = start_floor(start, removed);
+    let left = oldest_from(words, owner as u64, floor);
     seats::reset_owner_queue_start(words, owner, removed, clock, left);
 }
 
