@@ -228,7 +228,7 @@ fn at_most_eight(n: u32) -> usize
 }
 
 pub fn blocks_of(first: u32, count: u32) -> Blocks
-    ensures { λ r. ⌜ (r ≡ blocks-of first count) × (r .count ≤ 8) ⌝ }
+    ensures { λ r. ⌜ (r ≡ blocks-of first count) × (r .count ≤ 8) × (length (r .hashes) ≡ 32) × (length (r .heights) ≡ 8) ⌝ }
 {
     let hashes = hashes_from(first);
     let heights = heights_from(first);

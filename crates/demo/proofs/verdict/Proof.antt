@@ -7,4 +7,4 @@ returns : tie.Need-returns
 returns c = cc
 
 pub verdict-spec : {M : Type 1} → statement M
-verdict-spec = tie.close (tie.spec (λ c κs. search needs) (λ c κs. search needs) (λ c κs. search needs) (λ c κs. search needs) returns)
+verdict-spec = tie.close (tie.spec (λ c κs. search needs) (λ c κs. search needs) returns)

@@ -23,6 +23,8 @@ unfolding blocks-of
 returns c = (
   rw (c .height-after .ensures, c .before .at-most-eight .ensures .0, c .before .before .heights-from .ensures, c .before .before .before .hashes-from .ensures) refl,
   c .before .at-most-eight .ensures .1,
+  search needs,
+  search needs,
 )
 
 pub blocks-of-spec : {M : Type 1} → statement M
