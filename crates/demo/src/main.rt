@@ -53,12 +53,14 @@ fn play(words: &mut [u64], b: Book, text: &[u8]) -> Book {
     book
 }
 
-// The script. A call's line has after its colon which call (by its place in lines::words); tenths of a second; the peer; the first block and how many; and one number
-// more: the body's bytes, the owner of the blocks, how many blocks are staged, or how many peers there are.
-fn catch_up(words: &mut [u64]) -> Book {
+// The script. A call's line has after its colon which call (by its place in lines::words: 0 open, 1 mark_requested, 2 mark_owned_fetch, 3 mark_received_from,
+// 4 reject_delivery, 5 expire_pending, 6 requeue_for_retry, 7 release_pending, 8 retire_before, 9 retain_owned_by, 10 observe_blocked, 11 confirm_cold_front_hedge,
+// 12 confirm_prefix_probe, 13 set_fanout_eligible_peers, 14 clear_preferred_peer); tenths of a second; the peer; the first block and how many; and one number more:
+// the body's bytes, the owner of the blocks, how many blocks are staged, or how many peers there are.
+fn catch_up(words: &mut [u64], b: Book) -> Book {
     play(
         words,
-        ledger::empty(),
+        b,
         b"A node catches up from block 1 through twelve peers. One line a call: the call,
 the first and the last block that it is about, its answer, and what is pending
 after it.
@@ -194,6 +196,6 @@ fn blank() -> [u64; 4096] {
 
 fn main() {
     let mut words = blank();
-    let b = catch_up(&mut words);
+    let b = catch_up(&mut words, ledger::empty());
     close(&words, b);
 }
