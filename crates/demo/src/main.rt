@@ -14,12 +14,6 @@ fn put(s: &[u8]) {
     io::write_all(1, s);
 }
 
-fn put_first(l: [u8; 81], n: usize) {
-    if n <= 81 {
-        put(&l[..n]);
-    }
-}
-
 // ---- one line a call
 
 fn show(words: &[u64], s: Step, said: Said) {
@@ -57,11 +51,8 @@ fn play(words: &mut [u64], b: Book, text: &[u8]) -> Book {
 // 4 reject_delivery, 5 expire_pending, 6 requeue_for_retry, 7 release_pending, 8 retire_before, 9 retain_owned_by, 10 observe_blocked, 11 confirm_cold_front_hedge,
 // 12 confirm_prefix_probe, 13 set_fanout_eligible_peers, 14 clear_preferred_peer); tenths of a second; the peer; the first block and how many; and one number more:
 // the body's bytes, the owner of the blocks, how many blocks are staged, or how many peers there are.
-fn catch_up(words: &mut [u64], b: Book) -> Book {
-    play(
-        words,
-        b,
-        b"A node catches up from block 1 through twelve peers. One line a call: the call,
+fn script_text() -> [u8; 2790] {
+    *b"A node catches up from block 1 through twelve peers. One line a call: the call,
 the first and the last block that it is about, its answer, and what is pending
 after it.
 
@@ -149,15 +140,15 @@ Half an hour later those who never answered have timed out. Peer 2 is asked
 for the next blocks.
 :  5 18000   0  0 0      0
 :  1 18001   2 14 4      0
-",
-    )
+"
 }
 
 // ---- the book at the end, and whether it adds up with what the window says
 
+// A line of the book has 53 bytes and a line end.
 fn entry(k: usize, blocks: u64, bytes: u64) {
     let l = lines::rows::entry(k, blocks, bytes);
-    put_first(l, 54);
+    put(&l[..54]);
 }
 
 fn by_reasons(blocks: [u64; 11], bytes: [u64; 11]) {
@@ -196,6 +187,7 @@ fn blank() -> [u64; 4096] {
 
 fn main() {
     let mut words = blank();
-    let b = catch_up(&mut words, ledger::empty());
+    let text = script_text();
+    let b = play(&mut words, ledger::empty(), &text);
     close(&words, b);
 }
