@@ -46,10 +46,11 @@ pub fn line_end(text: &[u8], from: usize) -> usize
 {
     let mut k = from;
     while k < text.len() {
+        let next = k + 1;
         if text[k] == b'\n' {
-            return k + 1;
+            return next;
         }
-        k += 1;
+        k = next;
     }
     k
 }

@@ -33,11 +33,11 @@ abbrev μ-loop : tie.MeasureT-loop
 loop-holds : tie.Need-loop-holds Inv-loop μ-loop
 loop-holds c = (omega arith, omega (arith, c .pre), refl)
 
+add-next : tie.Need-add-next Inv-loop μ-loop
+add-next c = omega arith
+
 shared-slice-read-if1 : tie.Need-shared-slice-read-if1 Inv-loop μ-loop
 shared-slice-read-if1 c = search needs
-
-add-result : tie.Need-add-result Inv-loop μ-loop
-add-result c = omega arith
 
 returns : tie.Need-returns Inv-loop μ-loop
 returns c =
@@ -45,9 +45,6 @@ returns c =
     let a = c .before .before .before .before .args in
     let e = ends (a .text .now) (v .k) (omega arith) (c .if1 .taken) in
     (omega (arith, v .inv .2, e), omega (arith, v .inv .0), omega arith)
-
-add-k : tie.Need-add-k Inv-loop μ-loop
-add-k c = omega arith
 
 loop-less : tie.Need-loop-less Inv-loop μ-loop
 loop-less c = omega arith
@@ -67,4 +64,4 @@ returns-2 c =
     (omega (arith, v .inv .2, e), omega (arith, c .before .before .pre), v .inv .1)
 
 pub line-end-spec : {M : Type 1} → statement M
-line-end-spec = tie.close (tie.spec Inv-loop μ-loop loop-holds shared-slice-read-if1 add-result returns add-k loop-less loop-again returns-2)
+line-end-spec = tie.close (tie.spec Inv-loop μ-loop loop-holds add-next shared-slice-read-if1 returns loop-less loop-again returns-2)
