@@ -51,7 +51,7 @@ fn play(words: &mut [u64], b: Book, text: &[u8]) -> Book {
 // 4 reject_delivery, 5 expire_pending, 6 requeue_for_retry, 7 release_pending, 8 retire_before, 9 retain_owned_by, 10 observe_blocked, 11 confirm_cold_front_hedge,
 // 12 confirm_prefix_probe, 13 set_fanout_eligible_peers, 14 clear_preferred_peer); tenths of a second; the peer; the first block and how many; and one number more:
 // the body's bytes, the owner of the blocks, how many blocks are staged, or how many peers there are.
-fn script_text() -> [u8; 2790] {
+const SCRIPT: [u8; 2790] =
     *b"A node catches up from block 1 through twelve peers. One line a call: the call,
 the first and the last block that it is about, its answer, and what is pending
 after it.
@@ -140,7 +140,10 @@ Half an hour later those who never answered have timed out. Peer 2 is asked
 for the next blocks.
 :  5 18000   0  0 0      0
 :  1 18001   2 14 4      0
-"
+";
+
+fn script_text() -> [u8; 2790] {
+    SCRIPT
 }
 
 // ---- the book at the end, and whether it adds up with what the window says
