@@ -74,11 +74,6 @@ fn reject(words: &mut [u64], b: Book, s: Step) -> Outcome {
     }
 }
 
-fn drop_peer(words: &mut [u64], peer: u64) -> LetGoWords {
-    let flags = script::all_but(peer);
-    lend::retain_owned_by(words, &flags)
-}
-
 fn lets_go(words: &mut [u64], s: Step) -> LetGoWords {
     let h = s.hash;
     let call = s.call;
@@ -87,7 +82,10 @@ fn lets_go(words: &mut [u64], s: Step) -> LetGoWords {
         6 => lend::requeue_for_retry(words, h, Height32::Known(s.first), s.clock),
         7 => lend::release_pending(words, h, s.clock),
         8 => lend::retire_before(words, s.first, s.clock),
-        _ => drop_peer(words, s.peer),
+        _ => {
+            let flags = script::all_but(s.peer);
+            lend::retain_owned_by(words, &flags)
+        }
     }
 }
 

@@ -50,8 +50,8 @@ fn play(words: &mut [u64], b: Book, text: &[u8]) -> Book {
 // The script. A call's line has after its colon which call (by its place in lines::words: 0 open, 1 mark_requested, 2 mark_owned_fetch, 3 mark_received_from,
 // 4 reject_delivery, 5 expire_pending, 6 requeue_for_retry, 7 release_pending, 8 retire_before, 9 retain_owned_by, 10 observe_blocked, 11 confirm_cold_front_hedge,
 // 12 confirm_prefix_probe, 13 set_fanout_eligible_peers, 14 clear_preferred_peer); tenths of a second; the peer; the first block and how many; and one number more:
-// the body's bytes, the owner of the blocks, how many blocks are staged, or how many peers there are.
-const SCRIPT: [u8; 2790] =
+// the body's bytes, the owner of the blocks, how many blocks are staged, or how many peers there are. What a call does not have is left blank.
+const SCRIPT: [u8; 2506] =
     *b"A node catches up from block 1 through twelve peers. One line a call: the call,
 the first and the last block that it is about, its answer, and what is pending
 after it.
@@ -61,17 +61,17 @@ after it.
 
 Peer 1 is slow with block 1, so peer 2 is asked for it too, and is first.
 Peer 1 loses the race, and block 2 with it.
-:  0     0   0  0 0      0
-:  1     0   1  1 2      0
-: 10     1   0  1 1      0
-: 10    21   0  1 1      0
+:  0     0
+:  1     0   1  1 2
+: 10     1      1 1
+: 10    21      1 1
 : 11    21   2  1 1      1
 :  3    23   2  1 1 250000
-: 14    23   0  0 0      0
+: 14    23
 
 Peer 3 is asked for eight blocks, and peer 2 races it. Four blocks decide:
 peer 3 loses, and its other four are let go.
-:  1    24   3  2 8      0
+:  1    24   3  2 8
 : 12    24   2  2 8      3
 :  3    26   2  2 1 260000
 :  3    27   2  3 1 270000
@@ -79,22 +79,22 @@ peer 3 loses, and its other four are let go.
 :  3    29   2  5 1 290000
 
 Twelve peers are there. All but the two losers are asked for two blocks each.
-: 13    30   0  0 0     12
-:  1    31   2  6 2      0
-:  1    31   4  8 2      0
-:  1    31   5 10 2      0
-:  1    31   6 12 2      0
-:  1    31   7 14 2      0
-:  1    31   8 16 2      0
-:  1    31   9 18 2      0
-:  1    32  10 20 2      0
-:  1    32  11 22 2      0
-:  1    32  12 24 2      0
+: 13    30              12
+:  1    31   2  6 2
+:  1    31   4  8 2
+:  1    31   5 10 2
+:  1    31   6 12 2
+:  1    31   7 14 2
+:  1    31   8 16 2
+:  1    31   9 18 2
+:  1    32  10 20 2
+:  1    32  11 22 2
+:  1    32  12 24 2
 
 Three calls that make no sense are refused, and change nothing.
-:  1    33 300 26 2      0
-:  1    33  11 21 1      0
-:  1    10   2 26 2      0
+:  1    33 300 26 2
+:  1    33  11 21 1
+:  1    10   2 26 2
 
 Blocks come in. Peer 6 leaves out block 13, and peer 9 block 18.
 :  3    40   2  6 1 300000
@@ -107,42 +107,42 @@ Blocks come in. Peer 6 leaves out block 13, and peer 9 block 18.
 
 Peer 5 does not have block 11. Peer 7 sends a wrong block 14, and a wrong
 block 16, for which nobody asked it.
-:  6    47   0 11 1      0
-:  4    48   7 14 1      0
-:  4    48   7 16 1      0
+:  6    47     11 1
+:  4    48   7 14 1
+:  4    48   7 16 1
 
 Peer 8 hangs up. All seats but its own are kept.
-:  9    50   8  0 0      0
+:  9    50   8
 
 Peer 4 stalls: the chain waits for its block 8, with 200 blocks staged above.
 After two seconds it is blamed, and dropped.
-: 10    51   0  8 1    200
-: 10    61   0  8 1    200
-: 10    72   0  8 1    200
-:  9    73   4  0 0      0
+: 10    51      8 1    200
+: 10    61      8 1    200
+: 10    72      8 1    200
+:  9    73   4
 
 What peers skipped is swept. What was let go is asked for again.
-:  5    74   0  0 0      0
-:  1    75   2  8 2      0
-:  2    75  10 11 1      0
-:  2    75  10 14 1      0
-:  2    76   2 11 1      0
-:  1    76  11 16 3      0
+:  5    74
+:  1    75   2  8 2
+:  2    75  10 11 1
+:  2    75  10 14 1
+:  2    76   2 11 1
+:  1    76  11 16 3
 :  3    80   2  8 1 300000
 :  3    81   2  9 1 300000
 
 Block 22 came by another way, and blocks below 14 are no longer wanted.
-:  7    82   0 22 1      0
-:  8    83   0 14 1      0
+:  7    82     22 1
+:  8    83     14 1
 :  3    84   7 15 1 290000
 
 Half an hour later those who never answered have timed out. Peer 2 is asked
 for the next blocks.
-:  5 18000   0  0 0      0
-:  1 18001   2 14 4      0
+:  5 18000
+:  1 18001   2 14 4
 ";
 
-fn script_text() -> [u8; 2790] {
+fn script_text() -> [u8; 2506] {
     SCRIPT
 }
 
@@ -154,11 +154,11 @@ fn entry(k: usize, blocks: u64, bytes: u64) {
     put(&l[..54]);
 }
 
-fn by_reasons(blocks: [u64; 11], bytes: [u64; 11]) {
-    let mut i: usize = 1;
-    while i < 11 {
-        entry(i, blocks[i], bytes[i]);
-        i += 1;
+fn page(blocks: [u64; 13], bytes: [u64; 13]) {
+    let mut k: usize = 0;
+    while k < 13 {
+        entry(k, blocks[k], bytes[k]);
+        k += 1;
     }
 }
 
@@ -176,10 +176,10 @@ fn close(words: &[u64], b: Book) {
     let l = b.gone;
     let m = b.gone_bytes;
     put(b"\nThe book                           blocks       bytes\n");
-    entry(0, b.blocks, b.bytes);
-    by_reasons(l, m);
-    entry(11, ledger::sum(l), ledger::sum(m));
-    entry(12, pending, bytes);
+    page(
+        ledger::column(b.blocks, l, pending),
+        ledger::column(b.bytes, m, bytes),
+    );
     let v = verdict(b, pending, bytes);
     put(&v);
 }

@@ -1,6 +1,6 @@
 -- The book that a program keeps beside a window: sums of 64 bits that stop at the top, what a report lets go by reason, and the verdict.
 use mathlib.Core.Bool.{Bool, true, false, cond, _&&_}
-use mathlib.Core.List.{List}
+use mathlib.Core.List.{List, [], _∷_}
 use Prim.Native.Nat.{ℕ, zero, suc, _+_, _*_}
 use lib.Dec.{eqb, leb}
 use lib.ListN.{getD, set, replicate}
@@ -86,3 +86,21 @@ let-go b report n = record {
   gone = tallied false report (lesser n 256) (b .gone);
   «gone_bytes» = tallied true report (lesser n 256) (b .«gone_bytes»);
 }
+
+-- a column of the page at the end: opened, let go for each of the ten reasons and in all, pending
+unfoldable pub column : ℕ → List ℕ → ℕ → List ℕ
+column in-all gone pending =
+    in-all
+    ∷ getD gone 1 0
+    ∷ getD gone 2 0
+    ∷ getD gone 3 0
+    ∷ getD gone 4 0
+    ∷ getD gone 5 0
+    ∷ getD gone 6 0
+    ∷ getD gone 7 0
+    ∷ getD gone 8 0
+    ∷ getD gone 9 0
+    ∷ getD gone 10 0
+    ∷ capped-sum 11 gone
+    ∷ pending
+    ∷ []

@@ -4,7 +4,7 @@ ghost use mathlib.Core.Path.{_≡_};
 ghost use Prim.Native.Nat.{_≤_};
 ghost use lib.ListN.{getD};
 ghost use Rattle.model.specs.Numbers.{lesser};
-ghost use Rattle.ledger.specs.Book.{capped, added, capped-sum, place-of, weight, one-more, tallied, adds-up, balanced, value, empty, opened, of-request, of-fetch, let-go};
+ghost use Rattle.ledger.specs.Book.{capped, added, capped-sum, place-of, weight, one-more, tallied, adds-up, balanced, value, empty, opened, of-request, of-fetch, let-go, column};
 use model::Fetch;
 use model::Number;
 use model::Requested;
@@ -114,7 +114,7 @@ fn at_most(n: usize) -> usize
     256
 }
 
-pub fn sum(l: [u64; 11]) -> u64
+fn sum(l: [u64; 11]) -> u64
     ensures { λ r. ⌜ r ≡ capped-sum 11 l ⌝ }
 {
     let mut s = 0;
@@ -219,4 +219,28 @@ pub fn let_go(b: Book, report: [u64; 2304], n: usize) -> Book
         gone,
         gone_bytes,
     }
+}
+
+// ---- the page at the end
+
+// A column of the page: what was opened, what was let go by reason and in all, and what the window says is pending.
+pub fn column(opened: u64, gone: [u64; 11], pending: u64) -> [u64; 13]
+    ensures { λ r. ⌜ r ≡ column opened gone pending ⌝ }
+{
+    let all = sum(gone);
+    [
+        opened,
+        gone[1],
+        gone[2],
+        gone[3],
+        gone[4],
+        gone[5],
+        gone[6],
+        gone[7],
+        gone[8],
+        gone[9],
+        gone[10],
+        all,
+        pending,
+    ]
 }
