@@ -1,10 +1,17 @@
 -- The book that a program keeps beside a window: sums of 64 bits that stop at the top, what a report lets go by reason, and the verdict.
 use mathlib.Core.Bool.{Bool, true, false, cond, _&&_}
-use mathlib.Core.List.{List}
+use mathlib.Core.List.{List, [], _∷_}
 use Prim.Native.Nat.{ℕ, zero, suc, _+_, _*_}
 use lib.Dec.{eqb, leb}
-use lib.ListN.{getD, set}
+use lib.ListN.{getD, set, replicate}
 use Rattle.model.specs.Numbers.{lesser}
+use Rattle.model.specs.declared.Number.{Number}
+use Rattle.model.specs.declared.Number.the-variants.{Refused as Number·Refused, Is}
+use Rattle.model.specs.declared.Requested.{Requested}
+use Rattle.model.specs.declared.Requested.the-variants.{Refused as Requested·Refused, Full, Room}
+use Rattle.model.specs.declared.Fetch.{Fetch}
+use Rattle.model.specs.declared.Fetch.the-variants.{Refused as Fetch·Refused, Held, Staged, Asked, NoCapacity}
+use Rattle.ledger.specs.declared.Book.{Book}
 
 unfoldable pub capped : ℕ → ℕ → ℕ
 capped a b = lesser (a + b) 18446744073709551615
@@ -44,3 +51,56 @@ adds-up opened gone pending = eqb opened (gone + pending)
 -- in blocks and in bytes
 abbrev pub balanced : ℕ → ℕ → ℕ → ℕ → ℕ → ℕ → Bool
 balanced opened gone pending opened-bytes gone-bytes pending-bytes = adds-up opened gone pending && adds-up opened-bytes gone-bytes pending-bytes
+
+-- what a query answers, 0 where it is refused
+abbrev pub value : Number → ℕ
+value (Number·Refused k) = 0
+value (Is x) = x
+
+abbrev pub empty : Book
+empty = record { blocks = 0; bytes = 0; gone = replicate 11 0; «gone_bytes» = replicate 11 0 }
+
+-- so many blocks more, each with this estimate
+unfoldable pub opened : Book → ℕ → ℕ → Book
+opened b n estimate = record { blocks = added (b .blocks) 1 n; bytes = added (b .bytes) estimate n; gone = b .gone; «gone_bytes» = b .«gone_bytes» }
+
+-- how many of the n blocks of a request its answer says were opened
+abbrev pub of-request : Requested → ℕ → ℕ
+of-request (Requested·Refused k) n = 0
+of-request Full n = n
+of-request Room n = n
+
+-- a fetch is of one block
+abbrev pub of-fetch : Fetch → ℕ
+of-fetch (Fetch·Refused n) = 0
+of-fetch Held = 0
+of-fetch Staged = 0
+of-fetch Asked = 1
+of-fetch NoCapacity = 0
+
+-- what the first n of a report's 256 places let go
+unfoldable pub let-go : Book → List ℕ → ℕ → Book
+let-go b report n = record {
+  blocks = b .blocks;
+  bytes = b .bytes;
+  gone = tallied false report (lesser n 256) (b .gone);
+  «gone_bytes» = tallied true report (lesser n 256) (b .«gone_bytes»);
+}
+
+-- a column of the page at the end: opened, let go for each of the ten reasons and in all, pending
+unfoldable pub column : ℕ → List ℕ → ℕ → List ℕ
+column in-all gone pending =
+    in-all
+    ∷ getD gone 1 0
+    ∷ getD gone 2 0
+    ∷ getD gone 3 0
+    ∷ getD gone 4 0
+    ∷ getD gone 5 0
+    ∷ getD gone 6 0
+    ∷ getD gone 7 0
+    ∷ getD gone 8 0
+    ∷ getD gone 9 0
+    ∷ getD gone 10 0
+    ∷ capped-sum 11 gone
+    ∷ pending
+    ∷ []

@@ -8,20 +8,8 @@ use Rattle.demo.proofs.host.ask.Tie as tie
 ewma-block-bytes-requires : tie.Need-ewma-block-bytes-requires
 ewma-block-bytes-requires c κs = search needs
 
-hashes-from-requires : tie.Need-hashes-from-requires
-hashes-from-requires c κs = search needs
-
-heights-from-requires : tie.Need-heights-from-requires
-heights-from-requires c κs = search needs
-
-at-most-eight-requires : tie.Need-at-most-eight-requires
-at-most-eight-requires c κs = search needs
-
-height-after-requires : tie.Need-height-after-requires
-height-after-requires c κs = search needs
-
-clock-of-requires : tie.Need-clock-of-requires
-clock-of-requires c κs = search needs
+blocks-of-requires : tie.Need-blocks-of-requires
+blocks-of-requires c κs = search needs
 
 mul-hashes : tie.Need-mul-hashes
 mul-hashes c = search needs
@@ -44,17 +32,8 @@ mark-requested-requires c κs = search needs
 requested-requires : tie.Need-requested-requires
 requested-requires c κs = search needs
 
-opened-by-requires : tie.Need-opened-by-requires
-opened-by-requires c κs = search needs
-
-value-requires : tie.Need-value-requires
-value-requires c κs = search needs
-
-opened-requires : tie.Need-opened-requires
-opened-requires c κs = search needs
-
-done-requires : tie.Need-done-requires
-done-requires c κs = search needs
+requested-requires-2 : tie.Need-requested-requires-2
+requested-requires-2 c κs = search needs
 
 same-length : tie.Need-same-length
 same-length c = search needs
@@ -63,4 +42,4 @@ returns : tie.Need-returns
 returns c = search needs
 
 pub ask-spec : {M : Type 1} → statement M
-ask-spec = tie.close (tie.spec ewma-block-bytes-requires hashes-from-requires heights-from-requires at-most-eight-requires height-after-requires clock-of-requires mul-hashes array-share-prefix-hashes slice-aggregate-mark-requested array-share-prefix-heights slice-aggregate-mark-requested-2 mark-requested-requires requested-requires opened-by-requires value-requires opened-requires done-requires same-length returns)
+ask-spec = tie.close (tie.spec ewma-block-bytes-requires blocks-of-requires mul-hashes array-share-prefix-hashes slice-aggregate-mark-requested array-share-prefix-heights slice-aggregate-mark-requested-2 mark-requested-requires requested-requires requested-requires-2 same-length returns)

@@ -1,15 +1,15 @@
--- `demo::by_reasons` meets its contract. Assumes nothing.
+-- `demo::page` meets its contract. Assumes nothing.
 use native.Mathlib.Omega.{arith}
 use borrow.Author.Needs.{needs}
 use Prim.Native.Nat.{ℕ, _-_}
-use Rattle.demo.proofs.by_reasons.Statement.{statement}
-use Rattle.demo.proofs.by_reasons.Tie as tie
+use Rattle.demo.proofs.page.Statement.{statement}
+use Rattle.demo.proofs.page.Tie as tie
 
 abbrev Inv-loop : tie.InvT-loop
-Inv-loop blocks bytes i₀ i = Unit {0}
+Inv-loop blocks bytes k₀ k = Unit {0}
 
 abbrev μ-loop : tie.MeasureT-loop
-μ-loop blocks bytes i₀ i = 11 - i
+μ-loop blocks bytes k₀ k = 13 - k
 
 loop-holds : tie.Need-loop-holds Inv-loop μ-loop
 loop-holds c = tt
@@ -29,8 +29,8 @@ array-read-entry-2 c = search needs
 entry-requires : tie.Need-entry-requires Inv-loop μ-loop
 entry-requires c κs = search needs
 
-add-i : tie.Need-add-i Inv-loop μ-loop
-add-i c = omega arith
+add-k : tie.Need-add-k Inv-loop μ-loop
+add-k c = omega arith
 
 loop-less : tie.Need-loop-less Inv-loop μ-loop
 loop-less c = omega arith
@@ -41,8 +41,8 @@ loop-again c = tt
 returns : tie.Need-returns Inv-loop μ-loop
 returns c = search needs
 
-pub by-reasons-spec : {M : Type 1} → statement M
-by-reasons-spec =
+pub page-spec : {M : Type 1} → statement M
+page-spec =
     tie.close
     (tie.spec
     Inv-loop
@@ -53,7 +53,7 @@ by-reasons-spec =
     mul-entry-2
     array-read-entry-2
     entry-requires
-    add-i
+    add-k
     loop-less
     loop-again
     returns)
