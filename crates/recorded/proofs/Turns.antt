@@ -43,8 +43,7 @@ upto-step f l m i x h u e =
     let n = length-from f 0 l in
     let z : i ≡ 0 + i = omega arith in
     let y : x ≡ getD (each f l) i 0 = e ∙ ap (f i) (upto-read f l m i u) ∙ ap (λ (j : ℕ). f j (getD l i 0)) z ∙ sym (read-from f 0 i l k) in
-    let next : suc i ≡ i + 1 = omega arith in
-    (
+    let next : suc i ≡ i + 1 = omega arith in (
       omega (arith, k),
       lib.ListN.length-set m i x ∙ u .1,
       ap (λ (r : List ℕ). set r i x) (u .2) ∙ over-step (each f l) l i x 0 (omega (arith, k, n)) k y ∙ ap (λ (j : ℕ). over j (each f l) l) next,

@@ -1,11 +1,7 @@
 // The calls by their numbers in crates/kofudile/API.md.
 use crate::asks::query;
 use lend::LetGoWords;
-use lend::ReceivedWords;
-use lend::RejectedWords;
 use model::Accepted;
-use model::Blocked;
-use model::Fetch;
 use model::Requested;
 use recorded::Args;
 use recorded::Said;
@@ -17,13 +13,6 @@ use recorded::arguments::flags_at;
 use recorded::arguments::height_of;
 use recorded::arguments::opening_at;
 use recorded::stream::low;
-
-fn open(words: &mut [u64], numbers: &[u64], at: u64) -> Accepted {
-    let o = opening_at(numbers, at);
-    let settings = o.settings;
-    let keys = o.keys;
-    window::open(words, settings, &keys, o.clock)
-}
 
 fn request(words: &mut [u64], numbers: &[u64], at: u64, a: Args) -> Requested {
     let l = asked_at(numbers, at);
@@ -43,11 +32,6 @@ fn request(words: &mut [u64], numbers: &[u64], at: u64, a: Args) -> Requested {
     )
 }
 
-fn fetch(words: &mut [u64], a: Args) -> Fetch {
-    let h = a.hash1;
-    window::mark_owned_fetch(words, a.a, h, low(a.f), a.g != 0, a.h, a.i, a.j)
-}
-
 fn confirm(words: &mut [u64], numbers: &[u64], at: u64, a: Args) -> Accepted {
     let l = confirmed_at(numbers, at);
     let n = l.n;
@@ -57,57 +41,31 @@ fn confirm(words: &mut [u64], numbers: &[u64], at: u64, a: Args) -> Accepted {
     window::confirm_prefix_probe(words, a.a, &given[..n], &others[..m], a.b)
 }
 
-fn look(words: &mut [u64], a: Args) -> Blocked {
-    let h = a.hash3;
-    let next = height_of(a.a, a.b);
-    let frontier = flat::sought_of(a.c != 0, h);
-    let highest = height_of(a.j, a.k);
-    window::observe_blocked(words, next, frontier, a.h != 0, a.i, highest, a.l)
-}
-
-fn received(words: &mut [u64], a: Args) -> ReceivedWords {
-    let h = a.hash0;
-    let s = flat::source_of(a.f != 0, a.g);
-    lend::mark_received_from(words, h, a.e, s, a.h)
-}
-
-fn rejected(words: &mut [u64], a: Args) -> RejectedWords {
-    let h = a.hash0;
-    let s = flat::source_of(a.e != 0, a.f);
-    lend::reject_delivery(words, h, s, a.g)
-}
-
-fn credited(words: &mut [u64], a: Args) -> LetGoWords {
-    let h = a.hash0;
-    let t = height_of(a.f, a.g);
-    lend::credit_delivery_from(words, h, a.e, t, a.h)
-}
-
-fn requeued(words: &mut [u64], a: Args) -> LetGoWords {
-    let h = a.hash0;
-    let t = height_of(a.e, a.f);
-    lend::requeue_for_retry(words, h, t, a.g)
-}
-
-fn retained(words: &mut [u64], numbers: &[u64], at: u64) -> LetGoWords {
-    let flags = flags_at(numbers, at);
-    lend::retain_owned_by(words, &flags)
-}
-
 fn lets_go(words: &mut [u64], numbers: &[u64], kind: u64, at: u64, a: Args) -> LetGoWords {
     let h = a.hash0;
     match kind {
-        5 => credited(words, a),
+        5 => {
+            let t = height_of(a.f, a.g);
+            lend::credit_delivery_from(words, h, a.e, t, a.h)
+        }
         8 => lend::expire_pending(words, a.a),
-        9 => requeued(words, a),
+        9 => {
+            let t = height_of(a.e, a.f);
+            lend::requeue_for_retry(words, h, t, a.g)
+        }
         10 => lend::release_pending(words, h, a.e),
         11 => lend::retire_before(words, low(a.a), a.b),
-        _ => retained(words, numbers, at),
+        _ => {
+            let flags = flags_at(numbers, at);
+            lend::retain_owned_by(words, &flags)
+        }
     }
 }
 
 fn receives(words: &mut [u64], a: Args) -> Said {
-    let l = received(words, a);
+    let h = a.hash0;
+    let s = flat::source_of(a.f != 0, a.g);
+    let l = lend::mark_received_from(words, h, a.e, s, a.h);
     let r = l.answer;
     let gone = l.gone;
     Said {
@@ -118,7 +76,9 @@ fn receives(words: &mut [u64], a: Args) -> Said {
 }
 
 fn rejects(words: &mut [u64], a: Args) -> Said {
-    let l = rejected(words, a);
+    let h = a.hash0;
+    let s = flat::source_of(a.e != 0, a.f);
+    let l = lend::reject_delivery(words, h, s, a.g);
     let r = l.answer;
     let gone = l.gone;
     Said {
@@ -144,7 +104,12 @@ fn accepted(words: &mut [u64], numbers: &[u64], kind: u64, at: u64, a: Args) -> 
     let h = a.hash0;
     let g = a.hash2;
     match kind {
-        1 => open(words, numbers, at),
+        1 => {
+            let o = opening_at(numbers, at);
+            let settings = o.settings;
+            let keys = o.keys;
+            window::open(words, settings, &keys, o.clock)
+        }
         6 => window::credit_duplicate_delivery(words, h, a.e),
         13 => window::mark_peer_unresponsive(words, a.a, a.b),
         14 => confirm(words, numbers, at, a),
@@ -157,8 +122,34 @@ fn accepted(words: &mut [u64], numbers: &[u64], kind: u64, at: u64, a: Args) -> 
 fn changes(words: &mut [u64], numbers: &[u64], kind: u64, at: u64, a: Args) -> [u64; 32] {
     match kind {
         2 => answers::requested(request(words, numbers, at, a)),
-        3 => answers::fetch(fetch(words, a)),
-        16 => answers::blocked(look(words, a)),
+        3 => {
+            let h = a.hash1;
+            answers::fetch(window::mark_owned_fetch(
+                words,
+                a.a,
+                h,
+                low(a.f),
+                a.g != 0,
+                a.h,
+                a.i,
+                a.j,
+            ))
+        }
+        16 => {
+            let h = a.hash3;
+            let next = height_of(a.a, a.b);
+            let frontier = flat::sought_of(a.c != 0, h);
+            let highest = height_of(a.j, a.k);
+            answers::blocked(window::observe_blocked(
+                words,
+                next,
+                frontier,
+                a.h != 0,
+                a.i,
+                highest,
+                a.l,
+            ))
+        }
         0..=18 => answers::done(accepted(words, numbers, kind, at, a)),
         _ => query(words, kind, a),
     }

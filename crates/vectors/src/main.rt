@@ -26,23 +26,19 @@ fn one(words: &mut [u64], expected: &mut [u64], numbers: &[u64], r: Record) -> S
     compared(s, words, expected, numbers, r)
 }
 
-fn put(s: &[u8]) {
-    io::write_all(1, s);
-}
-
 fn unless(same: bool, part: &[u8]) {
     if same {
         return;
     }
-    put(part);
+    io::write_all(1, part);
 }
 
 fn name(number: u64, kind: u64, q: Same) {
-    put(b"record ");
+    io::write_all(1, b"record ");
     io::print_decimal(1, number);
-    put(b", call ");
+    io::write_all(1, b", call ");
     io::print_decimal(1, kind);
-    put(b" differs in");
+    io::write_all(1, b" differs in");
     unless(q.refusal, b" refusal");
     unless(q.answer, b" answer");
     unless(q.count, b" count");
@@ -50,7 +46,7 @@ fn name(number: u64, kind: u64, q: Same) {
     unless(q.values, b" values");
     unless(q.reasons, b" reasons");
     unless(q.words, b" words");
-    put(b"\n");
+    io::write_all(1, b"\n");
 }
 
 // A call that differs is named, and counted.
@@ -85,23 +81,19 @@ fn blank() -> [u64; 4096] {
     [0; 4096]
 }
 
-fn replayed(numbers: &[u64]) -> Count {
-    let mut words = blank();
-    let mut expected = blank();
-    replay(&mut words, &mut expected, numbers)
-}
-
 fn report(c: Count) {
     io::print_decimal(1, std::num::wrapping_sub_u64(c.calls, c.differing));
-    put(b" calls as recorded, ");
+    io::write_all(1, b" calls as recorded, ");
     io::print_decimal(1, c.differing);
-    put(b" differ\n");
+    io::write_all(1, b" differ\n");
 }
 
 fn run(bytes: &mut [u8], numbers: &mut [u64]) {
     let n = io::read_full(0, bytes);
     read_numbers(&bytes[..n], numbers);
-    let c = replayed(numbers);
+    let mut words = blank();
+    let mut expected = blank();
+    let c = replay(&mut words, &mut expected, numbers);
     report(c);
 }
 

@@ -8,7 +8,7 @@ use Rattle.recorded.proofs.arguments.args_at.Tie as tie
 
 returns : tie.Need-returns
 unfolding args-at
-returns c = 
+returns c =
     let ns = c .before .before .before .before .before .before .before .before .before .before .before .before .args .numbers .now in
     let first = c .before .before .before .before .before .before .before .before .before .before .hash-at .ensures in
     let second = c .before .before .before .before .before .before .before .before .hash-at2 .ensures ∙ ap (hash-from ns) (c .before .before .before .before .before .before .before .before .before .on .ensures) in

@@ -61,8 +61,7 @@ loop-again c =
     let l = c .before .before .before .before .left-after in
     let x = c .before .before .before .before .before .value-after in
     let k = c .before .before .kept in
-    let e = one-more (a .bytes .now) (v .i) (v .left) (v .value) (l .result) (x .result) (omega arith) (l .ensures) (x .ensures) in
-    (
+    let e = one-more (a .bytes .now) (v .i) (v .left) (v .value) (l .result) (x .result) (omega arith) (l .ensures) (x .ensures) in (
       k .ensures .0 ∙ v .inv .0,
       v .inv .1 ∙ ap (λ (ns : List ℕ). put-at (v .n) ns (v .out)) e ∙ sym (k .ensures .1 (numbers-from (l .result) (x .result) (drop (v .i + 1) (a .bytes .now)))),
     )

@@ -56,10 +56,9 @@ loop-again c =
     let v = c .before .before .before .loop in
     let w = c .word-after in
     let x : w .result ≡ new (a .numbers .now) (a .at) (v .i) (getD (v .words) (v .i) 0) =
-      w .ensures
-      ∙ ap (λ (k : ℕ). word-after (a .numbers .now) (a .at) k (c .before .before .before .before .nth .result) (v .i) (getD (v .words) (v .i) 0)) (v .inv .0)
-      ∙ ap (λ (k : ℕ). word-after (a .numbers .now) (a .at) (getD (a .numbers .now) (a .at) 0) k (v .i) (getD (v .words) (v .i) 0)) (v .inv .1) in
-    (
+    w .ensures
+    ∙ ap (λ (k : ℕ). word-after (a .numbers .now) (a .at) k (c .before .before .before .before .nth .result) (v .i) (getD (v .words) (v .i) 0)) (v .inv .0)
+    ∙ ap (λ (k : ℕ). word-after (a .numbers .now) (a .at) (getD (a .numbers .now) (a .at) 0) k (v .i) (getD (v .words) (v .i) 0)) (v .inv .1) in (
       v .inv .0,
       v .inv .1,
       length-set (v .words) (v .i) (w .result) ∙ v .inv .2,

@@ -67,13 +67,12 @@ loop-again c =
     let a = c .before .before .before .before .before .before .before .before .before .before .args in
     let v = c .before .before .before .before .before .before .before .loop in
     let run = c .before .before .before .put-run in
-    let ns = a .numbers .now in
-    (
+    let ns = a .numbers .now in (
       search needs,
       v .inv .1
-      ∙ one-more (v .turns) ns (v .at) (a .end) (v .words) (c .before .before .before .before .before .before .loop-test .taken) (omega (arith, c .before .before .before .before .before .if1 .left))
-      ∙ ap (λ (ws : List ℕ). runs-put (v .turns - 1) ns (next-run ns (v .at)) (a .end) ws) (sym (run .ensures))
-      ∙ ap (λ (p : ℕ). runs-put (v .turns - 1) ns p (a .end) (run .last .0)) (sym (c .next-run .ensures)),
+          ∙ one-more (v .turns) ns (v .at) (a .end) (v .words) (c .before .before .before .before .before .before .loop-test .taken) (omega (arith, c .before .before .before .before .before .if1 .left))
+          ∙ ap (λ (ws : List ℕ). runs-put (v .turns - 1) ns (next-run ns (v .at)) (a .end) ws) (sym (run .ensures))
+          ∙ ap (λ (p : ℕ). runs-put (v .turns - 1) ns p (a .end) (run .last .0)) (sym (c .next-run .ensures)),
     )
 
 same-length-2 : tie.Need-same-length-2 Inv-loop μ-loop
