@@ -1,19 +1,15 @@
 -- Where the parts of a record stand, and what its runs do to the words. Definitions only.
 use mathlib.Core.Bool.{cond, _&&_}
 use mathlib.Core.List.{List}
-use Prim.Native.Nat.{ℕ, zero, suc, _-_}
+use Prim.Native.Nat.{ℕ, zero, suc, _*_, _-_, _%_, _^_}
 use lib.Dec.{leb, ltb}
 use lib.ListN.{getD}
 use Rattle.recorded.specs.Each.{each}
 use Rattle.recorded.specs.Stream.{on, nth}
 use Rattle.recorded.specs.declared.Record.{Record}
 
--- doubled three times, and once more
-abbrev pub double : ℕ → ℕ
-double n = on n n
-
 abbrev pub nine-times : ℕ → ℕ
-nine-times n = on (double (double (double n))) n
+nine-times n = (9 * n) % 2 ^ 64
 
 abbrev pub answer-place : List ℕ → ℕ → ℕ
 answer-place ns place = on (on place 5) (nth ns place 1)
