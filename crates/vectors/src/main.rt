@@ -81,6 +81,12 @@ fn blank() -> [u64; 4096] {
     [0; 4096]
 }
 
+fn replayed(numbers: &[u64]) -> Count {
+    let mut words = blank();
+    let mut expected = blank();
+    replay(&mut words, &mut expected, numbers)
+}
+
 fn report(c: Count) {
     io::print_decimal(1, std::num::wrapping_sub_u64(c.calls, c.differing));
     io::write_all(1, b" calls as recorded, ");
@@ -91,9 +97,7 @@ fn report(c: Count) {
 fn run(bytes: &mut [u8], numbers: &mut [u64]) {
     let n = io::read_full(0, bytes);
     read_numbers(&bytes[..n], numbers);
-    let mut words = blank();
-    let mut expected = blank();
-    let c = replay(&mut words, &mut expected, numbers);
+    let c = replayed(numbers);
     report(c);
 }
 
