@@ -1,57 +1,25 @@
 // The calls by their numbers in crates/kofudile/API.md.
 use crate::asks::query;
-use crate::said;
-use crate::said::Said;
-use crate::stream::Args;
-use crate::stream::args_at;
-use crate::stream::get;
-use crate::stream::hashes_at;
-use crate::stream::heights_at;
-use crate::stream::length_at;
-use crate::stream::low;
-use crate::stream::on;
-use crate::stream::seats_at;
 use lend::LetGoWords;
-use lend::ReceivedWords;
-use lend::RejectedWords;
 use model::Accepted;
-use model::Blocked;
-use model::Fetch;
 use model::Requested;
-use model::Settings;
-
-fn settings_of(a: Args) -> Settings {
-    Settings {
-        max_pending_blocks: a.a,
-        max_pending_bytes: a.b,
-        max_received_blocks: a.c,
-        max_peer_inflight: a.d,
-        fanout_peer_inflight: a.e,
-        min_peers_for_fanout: a.f,
-        getdata_batch_limit: a.g,
-        block_spacing: a.h,
-        received_timeout: a.i,
-        stall_timeout_initial: a.j,
-        stall_timeout_max: a.k,
-        staller_cooldown: a.l,
-    }
-}
-
-// Behind the settings stand the keys, with their number before them, and the clock.
-fn open(words: &mut [u64], numbers: &[u64], at: u64, a: Args) -> Accepted {
-    let b = settings_of(a);
-    let keys = seats_at(numbers, on(at, 13));
-    let clock = get(numbers, on(at, 269));
-    window::open(words, b, &keys, clock)
-}
+use recorded::Args;
+use recorded::Said;
+use recorded::answers;
+use recorded::arguments::args_at;
+use recorded::arguments::asked_at;
+use recorded::arguments::confirmed_at;
+use recorded::arguments::flags_at;
+use recorded::arguments::height_of;
+use recorded::arguments::opening_at;
+use recorded::stream::low;
 
 fn request(words: &mut [u64], numbers: &[u64], at: u64, a: Args) -> Requested {
-    let n = length_at(numbers, on(at, 5), 1024);
-    let first = on(at, 6);
-    let hashes = hashes_at(numbers, first);
-    let second = on(first, n as u64);
-    let m = length_at(numbers, second, 256);
-    let heights = heights_at(numbers, on(second, 1));
+    let l = asked_at(numbers, at);
+    let n = l.n;
+    let m = l.m;
+    let hashes = l.hashes;
+    let heights = l.heights;
     window::mark_requested(
         words,
         a.a,
@@ -64,90 +32,70 @@ fn request(words: &mut [u64], numbers: &[u64], at: u64, a: Args) -> Requested {
     )
 }
 
-fn fetch(words: &mut [u64], a: Args) -> Fetch {
-    let h = a.hash1;
-    window::mark_owned_fetch(words, a.a, h, low(a.f), a.g != 0, a.h, a.i, a.j)
-}
-
 fn confirm(words: &mut [u64], numbers: &[u64], at: u64, a: Args) -> Accepted {
-    let n = length_at(numbers, on(at, 2), 1024);
-    let first = on(at, 3);
-    let given = hashes_at(numbers, first);
-    let second = on(first, n as u64);
-    let m = length_at(numbers, second, 256);
-    let others = seats_at(numbers, on(second, 1));
+    let l = confirmed_at(numbers, at);
+    let n = l.n;
+    let m = l.m;
+    let given = l.given;
+    let others = l.others;
     window::confirm_prefix_probe(words, a.a, &given[..n], &others[..m], a.b)
-}
-
-fn look(words: &mut [u64], a: Args) -> Blocked {
-    let h = a.hash3;
-    let next = flat::height_of(a.a != 0, low(a.b));
-    let frontier = flat::sought_of(a.c != 0, h);
-    let highest = flat::height_of(a.j != 0, low(a.k));
-    window::observe_blocked(words, next, frontier, a.h != 0, a.i, highest, a.l)
-}
-
-fn received(words: &mut [u64], a: Args) -> ReceivedWords {
-    let h = a.hash0;
-    let s = flat::source_of(a.f != 0, a.g);
-    lend::mark_received_from(words, h, a.e, s, a.h)
-}
-
-fn rejected(words: &mut [u64], a: Args) -> RejectedWords {
-    let h = a.hash0;
-    let s = flat::source_of(a.e != 0, a.f);
-    lend::reject_delivery(words, h, s, a.g)
-}
-
-fn credited(words: &mut [u64], a: Args) -> LetGoWords {
-    let h = a.hash0;
-    let t = flat::height_of(a.f != 0, low(a.g));
-    lend::credit_delivery_from(words, h, a.e, t, a.h)
-}
-
-fn requeued(words: &mut [u64], a: Args) -> LetGoWords {
-    let h = a.hash0;
-    let t = flat::height_of(a.e != 0, low(a.f));
-    lend::requeue_for_retry(words, h, t, a.g)
-}
-
-fn retained(words: &mut [u64], numbers: &[u64], at: u64) -> LetGoWords {
-    let flags = seats_at(numbers, on(at, 1));
-    lend::retain_owned_by(words, &flags)
 }
 
 fn lets_go(words: &mut [u64], numbers: &[u64], kind: u64, at: u64, a: Args) -> LetGoWords {
     let h = a.hash0;
     match kind {
-        5 => credited(words, a),
+        5 => {
+            let t = height_of(a.f, a.g);
+            lend::credit_delivery_from(words, h, a.e, t, a.h)
+        }
         8 => lend::expire_pending(words, a.a),
-        9 => requeued(words, a),
+        9 => {
+            let t = height_of(a.e, a.f);
+            lend::requeue_for_retry(words, h, t, a.g)
+        }
         10 => lend::release_pending(words, h, a.e),
         11 => lend::retire_before(words, low(a.a), a.b),
-        _ => retained(words, numbers, at),
+        _ => {
+            let flags = flags_at(numbers, at);
+            lend::retain_owned_by(words, &flags)
+        }
     }
 }
 
-fn reports(words: &mut [u64], numbers: &[u64], kind: u64, at: u64, a: Args) -> Said {
-    match kind {
-        4 => {
-            let l = received(words, a);
-            let r = l.answer;
-            let gone = l.gone;
-            said::with_report(said::received(flat::of_received(r)), l.places, gone)
-        }
-        7 => {
-            let l = rejected(words, a);
-            let r = l.answer;
-            let gone = l.gone;
-            said::with_report(said::rejected(flat::of_rejected(r)), l.places, gone)
-        }
-        _ => {
-            let l = lets_go(words, numbers, kind, at, a);
-            let r = l.answer;
-            let gone = l.gone;
-            said::with_report(said::gone(flat::of_let_go(r)), l.places, gone)
-        }
+fn receives(words: &mut [u64], a: Args) -> Said {
+    let h = a.hash0;
+    let s = flat::source_of(a.f != 0, a.g);
+    let l = lend::mark_received_from(words, h, a.e, s, a.h);
+    let r = l.answer;
+    let gone = l.gone;
+    Said {
+        fields: answers::received(r),
+        places: l.places,
+        gone,
+    }
+}
+
+fn rejects(words: &mut [u64], a: Args) -> Said {
+    let h = a.hash0;
+    let s = flat::source_of(a.e != 0, a.f);
+    let l = lend::reject_delivery(words, h, s, a.g);
+    let r = l.answer;
+    let gone = l.gone;
+    Said {
+        fields: answers::rejected(r),
+        places: l.places,
+        gone,
+    }
+}
+
+fn releases(words: &mut [u64], numbers: &[u64], kind: u64, at: u64, a: Args) -> Said {
+    let l = lets_go(words, numbers, kind, at, a);
+    let r = l.answer;
+    let gone = l.gone;
+    Said {
+        fields: answers::gone(r),
+        places: l.places,
+        gone,
     }
 }
 
@@ -156,7 +104,12 @@ fn accepted(words: &mut [u64], numbers: &[u64], kind: u64, at: u64, a: Args) -> 
     let h = a.hash0;
     let g = a.hash2;
     match kind {
-        1 => open(words, numbers, at, a),
+        1 => {
+            let o = opening_at(numbers, at);
+            let settings = o.settings;
+            let keys = o.keys;
+            window::open(words, settings, &keys, o.clock)
+        }
         6 => window::credit_duplicate_delivery(words, h, a.e),
         13 => window::mark_peer_unresponsive(words, a.a, a.b),
         14 => confirm(words, numbers, at, a),
@@ -168,24 +121,46 @@ fn accepted(words: &mut [u64], numbers: &[u64], kind: u64, at: u64, a: Args) -> 
 
 fn changes(words: &mut [u64], numbers: &[u64], kind: u64, at: u64, a: Args) -> [u64; 32] {
     match kind {
-        2 => said::number(flat::of_requested(request(words, numbers, at, a))),
-        3 => said::number(flat::of_fetch(fetch(words, a))),
-        16 => said::blocked(flat::of_blocked(look(words, a))),
-        _ => said::done(flat::of_accepted(accepted(words, numbers, kind, at, a))),
+        2 => answers::requested(request(words, numbers, at, a)),
+        3 => {
+            let h = a.hash1;
+            answers::fetch(window::mark_owned_fetch(
+                words,
+                a.a,
+                h,
+                low(a.f),
+                a.g != 0,
+                a.h,
+                a.i,
+                a.j,
+            ))
+        }
+        16 => {
+            let h = a.hash3;
+            let next = height_of(a.a, a.b);
+            let frontier = flat::sought_of(a.c != 0, h);
+            let highest = height_of(a.j, a.k);
+            answers::blocked(window::observe_blocked(
+                words,
+                next,
+                frontier,
+                a.h != 0,
+                a.i,
+                highest,
+                a.l,
+            ))
+        }
+        0..=18 => answers::done(accepted(words, numbers, kind, at, a)),
+        _ => query(words, kind, a),
     }
-}
-
-fn is_reporting(kind: u64) -> bool {
-    (kind == 4) | (kind == 5) | ((kind >= 7) & (kind <= 12))
 }
 
 pub(crate) fn perform(words: &mut [u64], numbers: &[u64], kind: u64, at: u64) -> Said {
     let a = args_at(numbers, at);
-    if kind > 18 {
-        return said::alone(query(words, kind, a));
+    match kind {
+        4 => receives(words, a),
+        7 => rejects(words, a),
+        5 | 8..=12 => releases(words, numbers, kind, at, a),
+        _ => answers::alone(changes(words, numbers, kind, at, a)),
     }
-    if is_reporting(kind) {
-        return reports(words, numbers, kind, at, a);
-    }
-    said::alone(changes(words, numbers, kind, at, a))
 }

@@ -1,12 +1,12 @@
 // The queries by their numbers in crates/kofudile/API.md; 49 asks for the hashes of the plan, 48 for its numbers. One call in each arm, and what they say is
 // made a row after it.
-use crate::said;
-use crate::stream::Args;
 use model::Number;
 use model::Pair;
 use model::Perhaps;
 use model::PerhapsPair;
 use model::Truth;
+use recorded::Args;
+use recorded::answers;
 
 fn number(words: &[u64], kind: u64, a: Args) -> Number {
     match kind {
@@ -67,21 +67,20 @@ fn perhaps(words: &[u64], kind: u64, a: Args) -> Perhaps {
 
 // A plan's numbers, or its hashes.
 fn plan(words: &[u64], kind: u64) -> [u64; 32] {
-    let f = flat::of_plan(window_queries::prefix_probe_plan(words));
+    let p = window_queries::prefix_probe_plan(words);
     if kind == 48 {
-        return said::plan(f);
+        return answers::plan(p);
     }
-    f.hashes
+    p.hashes
 }
 
 pub(crate) fn query(words: &[u64], kind: u64, a: Args) -> [u64; 32] {
     match kind {
-        19..=29 => said::number(flat::of_number(number(words, kind, a))),
-        32 => said::number(flat::of_number(number(words, kind, a))),
-        30..=38 => said::number(flat::of_truth(truth(words, kind, a))),
-        39..=40 => said::pair(flat::of_pair(pair(words, kind, a))),
-        41..=42 => said::perhaps_pair(flat::of_perhaps_pair(perhaps_pair(words, kind, a))),
-        43..=47 => said::perhaps(flat::of_perhaps(perhaps(words, kind, a))),
+        19..=29 | 32 => answers::number(number(words, kind, a)),
+        30..=38 => answers::truth(truth(words, kind, a)),
+        39..=40 => answers::pair(pair(words, kind, a)),
+        41..=42 => answers::perhaps_pair(perhaps_pair(words, kind, a)),
+        43..=47 => answers::perhaps(perhaps(words, kind, a)),
         _ => plan(words, kind),
     }
 }

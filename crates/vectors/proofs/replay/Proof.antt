@@ -14,8 +14,8 @@ abbrev μ-loop : tie.MeasureT-loop
 loop-holds : tie.Need-loop-holds Inv-loop μ-loop
 loop-holds c = search needs
 
-get-requires : tie.Need-get-requires Inv-loop μ-loop
-get-requires c κs = search needs
+record-at-requires : tie.Need-record-at-requires Inv-loop μ-loop
+record-at-requires c κs = search needs
 
 same-length : tie.Need-same-length Inv-loop μ-loop
 same-length c = search needs
@@ -29,23 +29,11 @@ returns c = search needs
 one-requires : tie.Need-one-requires Inv-loop μ-loop
 one-requires c κs = search needs
 
-on-requires : tie.Need-on-requires Inv-loop μ-loop
-on-requires c κs = search needs
+wrapping-add-u64-requires : tie.Need-wrapping-add-u64-requires Inv-loop μ-loop
+wrapping-add-u64-requires c κs = search needs
 
 told-requires : tie.Need-told-requires Inv-loop μ-loop
 told-requires c κs = search needs
-
-runs-at-requires : tie.Need-runs-at-requires Inv-loop μ-loop
-runs-at-requires c κs = search needs
-
-on-requires-2 : tie.Need-on-requires-2 Inv-loop μ-loop
-on-requires-2 c κs = search needs
-
-get-requires-2 : tie.Need-get-requires-2 Inv-loop μ-loop
-get-requires-2 c κs = search needs
-
-on-requires-3 : tie.Need-on-requires-3 Inv-loop μ-loop
-on-requires-3 c κs = search needs
 
 sub-turns : tie.Need-sub-turns Inv-loop μ-loop
 sub-turns c = search needs
@@ -66,4 +54,4 @@ returns-2 : tie.Need-returns-2 Inv-loop μ-loop
 returns-2 c = search needs
 
 pub replay-spec : {M : Type 1} → statement M
-replay-spec = tie.close (tie.spec Inv-loop μ-loop loop-holds get-requires same-length same-length-2 returns one-requires on-requires told-requires runs-at-requires on-requires-2 get-requires-2 on-requires-3 sub-turns loop-less loop-again same-length-3 same-length-4 returns-2)
+replay-spec = tie.close (tie.spec Inv-loop μ-loop loop-holds record-at-requires same-length same-length-2 returns one-requires wrapping-add-u64-requires told-requires sub-turns loop-less loop-again same-length-3 same-length-4 returns-2)

@@ -5,29 +5,8 @@ use borrow.Author.Needs.{needs}
 use Rattle.vectors.proofs.acts.confirm.Statement.{statement}
 use Rattle.vectors.proofs.acts.confirm.Tie as tie
 
-on-requires : tie.Need-on-requires
-on-requires c κs = search needs
-
-length-at-requires : tie.Need-length-at-requires
-length-at-requires c κs = search needs
-
-on-requires-2 : tie.Need-on-requires-2
-on-requires-2 c κs = search needs
-
-hashes-at-requires : tie.Need-hashes-at-requires
-hashes-at-requires c κs = search needs
-
-on-requires-3 : tie.Need-on-requires-3
-on-requires-3 c κs = search needs
-
-length-at-requires-2 : tie.Need-length-at-requires-2
-length-at-requires-2 c κs = search needs
-
-on-requires-4 : tie.Need-on-requires-4
-on-requires-4 c κs = search needs
-
-seats-at-requires : tie.Need-seats-at-requires
-seats-at-requires c κs = search needs
+confirmed-at-requires : tie.Need-confirmed-at-requires
+confirmed-at-requires c κs = search needs
 
 array-share-prefix-given : tie.Need-array-share-prefix-given
 array-share-prefix-given c = search needs
@@ -51,4 +30,4 @@ returns : tie.Need-returns
 returns c = search needs
 
 pub confirm-spec : {M : Type 1} → statement M
-confirm-spec = tie.close (tie.spec on-requires length-at-requires on-requires-2 hashes-at-requires on-requires-3 length-at-requires-2 on-requires-4 seats-at-requires array-share-prefix-given slice-aggregate-confirm-prefix-probe array-share-prefix-others slice-aggregate-confirm-prefix-probe-2 confirm-prefix-probe-requires same-length returns)
+confirm-spec = tie.close (tie.spec confirmed-at-requires array-share-prefix-given slice-aggregate-confirm-prefix-probe array-share-prefix-others slice-aggregate-confirm-prefix-probe-2 confirm-prefix-probe-requires same-length returns)

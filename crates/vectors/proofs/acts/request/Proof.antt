@@ -5,29 +5,8 @@ use borrow.Author.Needs.{needs}
 use Rattle.vectors.proofs.acts.request.Statement.{statement}
 use Rattle.vectors.proofs.acts.request.Tie as tie
 
-on-requires : tie.Need-on-requires
-on-requires c κs = search needs
-
-length-at-requires : tie.Need-length-at-requires
-length-at-requires c κs = search needs
-
-on-requires-2 : tie.Need-on-requires-2
-on-requires-2 c κs = search needs
-
-hashes-at-requires : tie.Need-hashes-at-requires
-hashes-at-requires c κs = search needs
-
-on-requires-3 : tie.Need-on-requires-3
-on-requires-3 c κs = search needs
-
-length-at-requires-2 : tie.Need-length-at-requires-2
-length-at-requires-2 c κs = search needs
-
-on-requires-4 : tie.Need-on-requires-4
-on-requires-4 c κs = search needs
-
-heights-at-requires : tie.Need-heights-at-requires
-heights-at-requires c κs = search needs
+asked-at-requires : tie.Need-asked-at-requires
+asked-at-requires c κs = search needs
 
 array-share-prefix-hashes : tie.Need-array-share-prefix-hashes
 array-share-prefix-hashes c = search needs
@@ -54,4 +33,4 @@ returns : tie.Need-returns
 returns c = search needs
 
 pub request-spec : {M : Type 1} → statement M
-request-spec = tie.close (tie.spec on-requires length-at-requires on-requires-2 hashes-at-requires on-requires-3 length-at-requires-2 on-requires-4 heights-at-requires array-share-prefix-hashes slice-aggregate-mark-requested array-share-prefix-heights slice-aggregate-mark-requested-2 low-requires mark-requested-requires same-length returns)
+request-spec = tie.close (tie.spec asked-at-requires array-share-prefix-hashes slice-aggregate-mark-requested array-share-prefix-heights slice-aggregate-mark-requested-2 low-requires mark-requested-requires same-length returns)
