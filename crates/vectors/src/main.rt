@@ -1,10 +1,6 @@
 // Replays the calls that the oracle recorded (stdin; VECTORS.md says how they were made): each answer, each report and all words after each call
 // are compared with the recorded ones, part by part (crates/recorded), and what differs is named. Every call is a public one; those that let go are lent a
 // report by crates/lend.
-mod acts;
-mod asks;
-
-use acts::perform;
 use recorded::Record;
 use recorded::Same;
 use recorded::compare::compared;
@@ -12,6 +8,7 @@ use recorded::compare::is_same;
 use recorded::input::read_numbers;
 use recorded::runs::put_runs;
 use recorded::runs::record_at;
+use replayed::acts::perform;
 use std::num::wrapping_add_u64;
 
 struct Count {

@@ -1,9 +1,12 @@
--- `vectors::acts::request` meets its contract. Assumes nothing.
+-- `replayed::acts::request` meets its contract. Assumes nothing.
 use mathlib.Core.Path.{sym}
 use lib.Seq.{length-take-le}
+use lib.ListN.{take}
 use borrow.Author.Needs.{needs}
-use Rattle.vectors.proofs.acts.request.Statement.{statement}
-use Rattle.vectors.proofs.acts.request.Tie as tie
+use Rattle.lend.specs.Goes.{leaves-as}
+use Rattle.model.specs.Refusals.{changes, requests}
+use Rattle.replayed.proofs.acts.request.Statement.{statement}
+use Rattle.replayed.proofs.acts.request.Tie as tie
 
 asked-at-requires : tie.Need-asked-at-requires
 asked-at-requires c κs = search needs
@@ -30,7 +33,7 @@ same-length : tie.Need-same-length
 same-length c = search needs
 
 returns : tie.Need-returns
-returns c = search needs
+returns c = let x = (c .before .before .before .before .before .before .before .before .before .before .before .before .args .a) in let l = sym (c .before .before .before .before .before .before .before .before .before .asked-at .ensures .0) in let h = sym (c .before .before .before .low .ensures) in leaves-as _ _ _ (λ i. changes (requests (x .e) (x .a) (take (l i .n) (l i .hashes)) (take (l i .m) (l i .heights)) (h i) (x .c) (x .d))) _ _ (c .before .before .mark-requested .ensures)
 
 pub request-spec : {M : Type 1} → statement M
 request-spec = tie.close (tie.spec asked-at-requires array-share-prefix-hashes slice-aggregate-mark-requested array-share-prefix-heights slice-aggregate-mark-requested-2 low-requires mark-requested-requires same-length returns)

@@ -1,9 +1,12 @@
--- `vectors::acts::confirm` meets its contract. Assumes nothing.
+-- `replayed::acts::confirm` meets its contract. Assumes nothing.
 use mathlib.Core.Path.{sym}
 use lib.Seq.{length-take-le}
+use lib.ListN.{take}
 use borrow.Author.Needs.{needs}
-use Rattle.vectors.proofs.acts.confirm.Statement.{statement}
-use Rattle.vectors.proofs.acts.confirm.Tie as tie
+use Rattle.lend.specs.Goes.{leaves-as}
+use Rattle.model.specs.Refusals.{changes, confirms-probe}
+use Rattle.replayed.proofs.acts.confirm.Statement.{statement}
+use Rattle.replayed.proofs.acts.confirm.Tie as tie
 
 confirmed-at-requires : tie.Need-confirmed-at-requires
 confirmed-at-requires c κs = search needs
@@ -27,7 +30,7 @@ same-length : tie.Need-same-length
 same-length c = search needs
 
 returns : tie.Need-returns
-returns c = search needs
+returns c = let x = (c .before .before .before .before .before .before .before .before .before .before .before .args .a) in let l = sym (c .before .before .before .before .before .before .before .before .confirmed-at .ensures .0) in leaves-as _ _ _ (λ i. changes (confirms-probe (x .b) (x .a) (take (l i .n) (l i .given)) (take (l i .m) (l i .others)))) _ _ (c .before .before .confirm-prefix-probe .ensures)
 
 pub confirm-spec : {M : Type 1} → statement M
 confirm-spec = tie.close (tie.spec confirmed-at-requires array-share-prefix-given slice-aggregate-confirm-prefix-probe array-share-prefix-others slice-aggregate-confirm-prefix-probe-2 confirm-prefix-probe-requires same-length returns)

@@ -1,5 +1,12 @@
 // The queries by their numbers in crates/kofudile/API.md; 49 asks for the hashes of the plan, 48 for its numbers. One call in each arm, and what they say is
 // made a row after it.
+ghost use mathlib.Core.Path.{_≡_};
+ghost use mathlib.Core.List.{[]};
+ghost use Rattle.model.specs.Refusals.{queries};
+ghost use Rattle.model.specs.Queries.{reads, probe-plan};
+ghost use Rattle.model.specs.Perform.{perform};
+ghost use Rattle.model.specs.Says.{number-says, truth-says, pair-says, perhaps-says, perhaps-pair-says};
+ghost use Rattle.replayed.specs.Calls.{number-query, truth-query, pair-query, perhaps-query, perhaps-pair-query, plan-part, query-at};
 use model::Number;
 use model::Pair;
 use model::Perhaps;
@@ -8,7 +15,9 @@ use model::Truth;
 use recorded::Args;
 use recorded::answers;
 
-fn number(words: &[u64], kind: u64, a: Args) -> Number {
+fn number(words: &[u64], kind: u64, a: Args) -> Number
+    ensures { λ r. ⌜ number-says r ≡ perform (queries (number-query a kind)) (now (words .entry)) [] .answer ⌝ }
+{
     match kind {
         19 => window_queries::pending_len(words),
         20 => window_queries::pending_bytes(words),
@@ -25,7 +34,9 @@ fn number(words: &[u64], kind: u64, a: Args) -> Number {
     }
 }
 
-fn truth(words: &[u64], kind: u64, a: Args) -> Truth {
+fn truth(words: &[u64], kind: u64, a: Args) -> Truth
+    ensures { λ r. ⌜ truth-says r ≡ perform (queries (truth-query a kind)) (now (words .entry)) [] .answer ⌝ }
+{
     let h = a.hash0;
     let k = a.hash1;
     match kind {
@@ -40,21 +51,27 @@ fn truth(words: &[u64], kind: u64, a: Args) -> Truth {
     }
 }
 
-fn pair(words: &[u64], kind: u64, a: Args) -> Pair {
+fn pair(words: &[u64], kind: u64, a: Args) -> Pair
+    ensures { λ r. ⌜ pair-says r ≡ perform (queries (pair-query a kind)) (now (words .entry)) [] .answer ⌝ }
+{
     match kind {
         39 => window_queries::pending_high_water(words),
         _ => window_queries::expired_pending_capacity(words, a.a),
     }
 }
 
-fn perhaps_pair(words: &[u64], kind: u64, a: Args) -> PerhapsPair {
+fn perhaps_pair(words: &[u64], kind: u64, a: Args) -> PerhapsPair
+    ensures { λ r. ⌜ perhaps-pair-says r ≡ perform (queries (perhaps-pair-query a kind)) (now (words .entry)) [] .answer ⌝ }
+{
     match kind {
         41 => window_queries::stalling_peer(words),
         _ => window_queries::compute_request_capacity(words, a.a, a.b, a.c),
     }
 }
 
-fn perhaps(words: &[u64], kind: u64, a: Args) -> Perhaps {
+fn perhaps(words: &[u64], kind: u64, a: Args) -> Perhaps
+    ensures { λ r. ⌜ perhaps-says r ≡ perform (queries (perhaps-query a kind)) (now (words .entry)) [] .answer ⌝ }
+{
     let h = a.hash0;
     match kind {
         43 => window_queries::preferred_peer(words),
@@ -66,7 +83,9 @@ fn perhaps(words: &[u64], kind: u64, a: Args) -> Perhaps {
 }
 
 // A plan's numbers, or its hashes.
-fn plan(words: &[u64], kind: u64) -> [u64; 32] {
+fn plan(words: &[u64], kind: u64) -> [u64; 32]
+    ensures { λ r. ⌜ r ≡ plan-part kind (perform (queries (reads probe-plan)) (now (words .entry)) [] .answer) ⌝ }
+{
     let p = window_queries::prefix_probe_plan(words);
     if kind == 48 {
         return answers::plan(p);
@@ -74,13 +93,23 @@ fn plan(words: &[u64], kind: u64) -> [u64; 32] {
     p.hashes
 }
 
-pub(crate) fn query(words: &[u64], kind: u64, a: Args) -> [u64; 32] {
-    match kind {
-        19..=29 | 32 => answers::number(number(words, kind, a)),
-        30..=38 => answers::truth(truth(words, kind, a)),
-        39..=40 => answers::pair(pair(words, kind, a)),
-        41..=42 => answers::perhaps_pair(perhaps_pair(words, kind, a)),
-        43..=47 => answers::perhaps(perhaps(words, kind, a)),
-        _ => plan(words, kind),
+pub(crate) fn query(words: &[u64], kind: u64, a: Args) -> [u64; 32]
+    ensures { λ r. ⌜ r ≡ query-at a kind .row-of (perform (queries (query-at a kind .query)) (now (words .entry)) [] .answer) ⌝ }
+{
+    if (kind <= 29) | (kind == 32) {
+        return answers::number(number(words, kind, a));
     }
+    if kind <= 38 {
+        return answers::truth(truth(words, kind, a));
+    }
+    if kind <= 40 {
+        return answers::pair(pair(words, kind, a));
+    }
+    if kind <= 42 {
+        return answers::perhaps_pair(perhaps_pair(words, kind, a));
+    }
+    if kind <= 47 {
+        return answers::perhaps(perhaps(words, kind, a));
+    }
+    plan(words, kind)
 }

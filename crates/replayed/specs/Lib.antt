@@ -1,0 +1,3 @@
+pub mod Cases
+pub mod Calls
+pub mod Told

@@ -1,0 +1,3 @@
+// A recorded call (crates/recorded) made on the lent words.
+pub mod acts;
+mod asks;
