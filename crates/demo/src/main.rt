@@ -3,11 +3,9 @@ ghost use mathlib.Core.Path.{_≡_};
 ghost use Rattle.ledger.specs.Book.{balanced, capped-sum};
 ghost use Rattle.lines.specs.Words.{verdicts};
 
-mod host;
-
-use host::act;
 use ledger::Book;
 use lines::Said;
+use played::act;
 use script::Step;
 
 fn put(s: &[u8]) {

@@ -1,2 +1,3 @@
 pub mod Blank
+pub mod Cases
 pub mod Goes

@@ -18,7 +18,7 @@ use Rattle.recorded.specs.Args.{args-at, opening-at, asked-at, confirmed-at}
 use Rattle.recorded.specs.Said.{row, number-row, pair-row, perhaps-row, perhaps-pair-row, gone-row, received-row, rejected-row, plan-row, blocked-row}
 use Rattle.recorded.specs.declared.Args.{Args}
 use Rattle.recorded.specs.declared.Said.{Said}
-use Rattle.replayed.specs.Cases.{pick}
+use Rattle.lend.specs.Cases.{pick}
 
 -- a call, and which row of words an answer of it is
 pub record Recorded : Type 0 where

@@ -1,3 +1,2 @@
-pub mod Cases
 pub mod Calls
 pub mod Told

@@ -23,7 +23,7 @@ use Rattle.recorded.specs.Said.{plan-row, alone}
 use Rattle.recorded.specs.declared.Args.{Args}
 use Rattle.recorded.specs.declared.Said.{Said}
 use Rattle.recorded.specs.Args.{args-at}
-use Rattle.replayed.specs.Cases.{pick, picks-such}
+use Rattle.lend.specs.Cases.{pick, picks-such}
 use Rattle.replayed.specs.Calls.{Recorded, Question, Performs, says-asked, asks-number, asks-pair, asks-perhaps, asks-perhaps-pair, number-query, truth-query, pair-query, perhaps-query, perhaps-pair-query, plan-part, query-at, calls-done, done-at, calls-told, says-done, quiet-at, says-received, says-rejected, says-gone, letting-go, lets-go, call-at}
 
 -- ---- of one call what is promised of another that it is

@@ -1,10 +1,10 @@
 -- `replayed::acts::accepted` meets its contract. Assumes nothing.
 use mathlib.Core.Path.{_∙_, ap, sym}
 use borrow.Author.Needs.{needs}
+use Rattle.lend.specs.Cases.{picks-other}
 use Rattle.lend.specs.Goes.{leaves-as}
 use Rattle.model.specs.Refusals.{changes, clears-preferred, opens}
 use Rattle.replayed.specs.Calls.{calls-done, done-at}
-use Rattle.replayed.specs.Cases.{picks-other}
 use Rattle.replayed.proofs.acts.accepted.Statement.{statement}
 use Rattle.replayed.proofs.acts.accepted.Tie as tie
 

@@ -2,12 +2,13 @@
 use mathlib.Core.Path.{_∙_, ap, refl, sym}
 use borrow.Author.Needs.{needs}
 use Rattle.flat.specs.Flat.{blocked-flat, done-flat, number-flat}
+use Rattle.lend.specs.Cases.{picks-other}
 use Rattle.lend.specs.Goes.{asked-leaves, leaves-as, quiet-change, quiet-query}
 use Rattle.model.specs.Refusals.{changes, fetches, queries}
 use Rattle.recorded.specs.Said.{blocked-row, number-row, row}
 use Rattle.recorded.specs.Stream.{is-set}
 use Rattle.replayed.specs.Calls.{calls-told, done-at, fetching, looking, query-at, requesting, says-done}
-use Rattle.replayed.specs.Cases.{pick, picks-other}
+use Rattle.replayed.specs.Cases.{pick}
 use Rattle.replayed.specs.Told.{is-call, is-query, performs-as, performs-quietly, quiet-done}
 use Rattle.replayed.proofs.acts.changes.Statement.{statement}
 use Rattle.replayed.proofs.acts.changes.Tie as tie

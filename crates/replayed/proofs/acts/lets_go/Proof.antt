@@ -2,11 +2,11 @@
 use mathlib.Core.Path.{_∙_, ap, sym}
 use Prim.Native.Nat.{ℕ}
 use borrow.Author.Needs.{needs}
+use Rattle.lend.specs.Cases.{picks-other}
 use Rattle.lend.specs.Goes.{goes-as}
 use Rattle.model.specs.Refusals.{changes, credits, requeues, retains, retires}
 use Rattle.recorded.specs.Stream.{on, row-at}
 use Rattle.replayed.specs.Calls.{calls-letting-go, letting-go}
-use Rattle.replayed.specs.Cases.{picks-other}
 use Rattle.replayed.proofs.acts.lets_go.Statement.{statement}
 use Rattle.replayed.proofs.acts.lets_go.Tie as tie
 

@@ -1,9 +1,9 @@
 -- `replayed::asks::number` meets its contract. Assumes nothing.
 use mathlib.Core.Path.{ap}
 use borrow.Author.Needs.{needs}
+use Rattle.lend.specs.Cases.{picks-other}
 use Rattle.model.specs.Queries.{asks-count-for}
 use Rattle.replayed.specs.Calls.{number-query, numbers-asked}
-use Rattle.replayed.specs.Cases.{picks-other}
 use Rattle.replayed.specs.Told.{asked-as}
 use Rattle.replayed.proofs.asks.number.Statement.{statement}
 use Rattle.replayed.proofs.asks.number.Tie as tie

@@ -1,9 +1,9 @@
 -- `replayed::asks::pair` meets its contract. Assumes nothing.
 use mathlib.Core.Path.{ap}
 use borrow.Author.Needs.{needs}
+use Rattle.lend.specs.Cases.{picks-other}
 use Rattle.model.specs.Queries.{asks-expired-capacity, pending-high-water}
 use Rattle.replayed.specs.Calls.{pair-query, pairs-asked}
-use Rattle.replayed.specs.Cases.{picks-other}
 use Rattle.replayed.specs.Told.{asked-as}
 use Rattle.replayed.proofs.asks.pair.Statement.{statement}
 use Rattle.replayed.proofs.asks.pair.Tie as tie

@@ -1,9 +1,9 @@
 -- `replayed::asks::perhaps` meets its contract. Assumes nothing.
 use mathlib.Core.Path.{ap}
 use borrow.Author.Needs.{needs}
+use Rattle.lend.specs.Cases.{picks-other}
 use Rattle.model.specs.Queries.{probe-start, reads}
 use Rattle.replayed.specs.Calls.{perhaps-asked, perhaps-query}
-use Rattle.replayed.specs.Cases.{picks-other}
 use Rattle.replayed.specs.Told.{asked-as}
 use Rattle.replayed.proofs.asks.perhaps.Statement.{statement}
 use Rattle.replayed.proofs.asks.perhaps.Tie as tie

@@ -1,9 +1,9 @@
 -- `replayed::asks::perhaps_pair` meets its contract. Assumes nothing.
 use mathlib.Core.Path.{ap}
 use borrow.Author.Needs.{needs}
+use Rattle.lend.specs.Cases.{picks-other}
 use Rattle.model.specs.Queries.{asks-compute-capacity, stalling-peer}
 use Rattle.replayed.specs.Calls.{perhaps-pair-query, perhaps-pairs-asked}
-use Rattle.replayed.specs.Cases.{picks-other}
 use Rattle.replayed.specs.Told.{asked-as}
 use Rattle.replayed.proofs.asks.perhaps_pair.Statement.{statement}
 use Rattle.replayed.proofs.asks.perhaps_pair.Tie as tie

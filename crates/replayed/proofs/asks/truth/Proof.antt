@@ -1,9 +1,9 @@
 -- `replayed::asks::truth` meets its contract. Assumes nothing.
 use mathlib.Core.Path.{ap}
 use borrow.Author.Needs.{needs}
+use Rattle.lend.specs.Cases.{picks-other}
 use Rattle.model.specs.Queries.{asks-cooldown}
 use Rattle.replayed.specs.Calls.{truth-query, truths-asked}
-use Rattle.replayed.specs.Cases.{picks-other}
 use Rattle.replayed.specs.Told.{asked-as}
 use Rattle.replayed.proofs.asks.truth.Statement.{statement}
 use Rattle.replayed.proofs.asks.truth.Tie as tie
