@@ -2,7 +2,6 @@
 ghost use mathlib.Core.Path.{_≡_};
 ghost use Rattle.ledger.specs.Book.{balanced, capped-sum};
 ghost use Rattle.lines.specs.Words.{verdicts};
-
 use ledger::Book;
 use lines::Said;
 use played::act;

@@ -155,8 +155,9 @@ module _ (call : Call) (q : Quiet call) (ws : List ℕ) where
   quiet-goes a ws′ l =
       let room = length none-filled in
       let s : refusal call ws 0 ≡ refusal call ws room = sym (q .same ws room) in
-      let e = l .0 ∙ ap (λ (n : ℕ). answer-by n call ws) s in
-      (e
-      , l .1 ∙ ap (λ (n : ℕ). words-by n call ws) s
-      , blank-report ∙ sym (ap (λ (r : List Release). r ++ drop (length r) none-filled) (none-gone (refusal call ws room)))
-      , no-places (refusal call ws room) ∙ sym (ap places e))
+      let e = l .0 ∙ ap (λ (n : ℕ). answer-by n call ws) s in (
+        e,
+        l .1 ∙ ap (λ (n : ℕ). words-by n call ws) s,
+        blank-report ∙ sym (ap (λ (r : List Release). r ++ drop (length r) none-filled) (none-gone (refusal call ws room))),
+        no-places (refusal call ws room) ∙ sym (ap places e),
+      )

@@ -13,20 +13,18 @@ use mathlib.Core.Bool.{false}
 use Rattle.played.proofs.look.Statement.{statement}
 use Rattle.played.proofs.look.Tie as tie
 
-height-after-requires : tie.Need-height-after-requires
-height-after-requires c κs = search needs
-
-observe-blocked-requires : tie.Need-observe-blocked-requires
-observe-blocked-requires c κs = search needs
-
-blocked-requires : tie.Need-blocked-requires
-blocked-requires c κs = search needs
-
-same-length : tie.Need-same-length
-same-length c = search needs
-
 returns : tie.Need-returns
-returns c = let s = (c .before .before .before .before .before .before .before .before .args .s) in plays-quietly (looking s) (c .before .before .before .before .before .before .before .before .args .b) _ _ _ _ (quiet-change _ refl) (leaves-as _ (looking s .call) _ (λ i. changes (observes (s .clock) (look (Known (s .first)) (Exactly (s .hash)) false (s .other) (Known (sym (c .before .before .before .before .before .height-after .ensures) i))))) _ _ (c .before .before .before .observe-blocked .ensures)) (c .blocked .ensures ∙ blocked-told (c .before .before .before .observe-blocked .result) (replicate 2304 0)) refl
+returns c =
+    let start = c .before .before .before .before .before .before .before .before in
+    let at-height-after = c .before .before .before .before .before .height-after in
+    let at-observe-blocked = c .before .before .before .observe-blocked in
+    let s = start .args .s in
+    plays-quietly (looking s) (start .args .b) _ _ _ _ (quiet-change _ refl)
+    (leaves-as _ (looking s .call) _
+    (λ i. changes (observes (s .clock) (look (Known (s .first)) (Exactly (s .hash)) false (s .other) (Known (sym (at-height-after .ensures) i))))) _ _
+    (at-observe-blocked .ensures))
+    (c .blocked .ensures ∙ blocked-told (at-observe-blocked .result) (replicate 2304 0)) refl
 
 pub look-spec : {M : Type 1} → statement M
-look-spec = tie.close (tie.spec height-after-requires observe-blocked-requires blocked-requires same-length returns)
+look-spec =
+    tie.close (tie.spec (λ c κs. search needs) (λ c κs. search needs) (λ c κs. search needs) (λ c. search needs) returns)

@@ -8,23 +8,19 @@ use Rattle.recorded.specs.Stream.{is-set}
 use Rattle.replayed.proofs.acts.looks.Statement.{statement}
 use Rattle.replayed.proofs.acts.looks.Tie as tie
 
-height-of-requires : tie.Need-height-of-requires
-height-of-requires c κs = search needs
-
-sought-of-requires : tie.Need-sought-of-requires
-sought-of-requires c κs = search needs
-
-height-of-requires-2 : tie.Need-height-of-requires-2
-height-of-requires-2 c κs = search needs
-
-observe-blocked-requires : tie.Need-observe-blocked-requires
-observe-blocked-requires c κs = search needs
-
-same-length : tie.Need-same-length
-same-length c = search needs
-
 returns : tie.Need-returns
-returns c = let x = (c .before .before .before .before .before .before .before .before .before .before .before .args .a) in let n = sym (c .before .before .before .before .before .before .before .before .height-of .ensures) in let f = sym (c .before .before .before .before .before .before .sought-of .ensures) in let t = sym (c .before .before .before .before .before .height-of2 .ensures) in leaves-as _ _ _ (λ i. changes (observes (x .l) (look (n i) (f i) (is-set (x .h)) (x .i) (t i)))) _ _ (c .before .before .observe-blocked .ensures)
+returns c =
+    let start = c .before .before .before .before .before .before .before .before .before .before .before in
+    let at-height-of = c .before .before .before .before .before .before .before .before .height-of in
+    let at-sought-of = c .before .before .before .before .before .before .sought-of in
+    let at-height-of2 = c .before .before .before .before .before .height-of2 in
+    let at-observe-blocked = c .before .before .observe-blocked in
+    let x = start .args .a in
+    let n = sym (at-height-of .ensures) in
+    let f = sym (at-sought-of .ensures) in
+    let t = sym (at-height-of2 .ensures) in
+    leaves-as _ _ _ (λ i. changes (observes (x .l) (look (n i) (f i) (is-set (x .h)) (x .i) (t i)))) _ _ (at-observe-blocked .ensures)
 
 pub looks-spec : {M : Type 1} → statement M
-looks-spec = tie.close (tie.spec height-of-requires sought-of-requires height-of-requires-2 observe-blocked-requires same-length returns)
+looks-spec =
+    tie.close (tie.spec (λ c κs. search needs) (λ c κs. search needs) (λ c κs. search needs) (λ c κs. search needs) (λ c. search needs) returns)

@@ -10,20 +10,15 @@ use Rattle.replayed.specs.Told.{goes-performs}
 use Rattle.replayed.proofs.acts.receives.Statement.{statement}
 use Rattle.replayed.proofs.acts.receives.Tie as tie
 
-source-of-requires : tie.Need-source-of-requires
-source-of-requires c κs = search needs
-
-mark-received-from-requires : tie.Need-mark-received-from-requires
-mark-received-from-requires c κs = search needs
-
-received-requires : tie.Need-received-requires
-received-requires c κs = search needs
-
-same-length : tie.Need-same-length
-same-length c = search needs
-
 returns : tie.Need-returns
-returns c = let x = (c .before .before .before .before .before .before .before .before .before .before .args .a) in goes-performs (changes (receiving x)) (λ y. received-row (received-flat y)) _ _ _ _ _ _ (c .received .ensures) (goes-as _ _ _ (λ i. changes (receives (x .h) (x .hash0) (x .e) (sym (c .before .before .before .before .before .before .source-of .ensures) i))) _ _ _ _ (c .before .before .before .before .mark-received-from .ensures))
+returns c =
+    let start = c .before .before .before .before .before .before .before .before .before .before in
+    let at-source-of = c .before .before .before .before .before .before .source-of in
+    let at-mark-received-from = c .before .before .before .before .mark-received-from in
+    let x = start .args .a in
+    goes-performs (changes (receiving x)) (λ y. received-row (received-flat y)) _ _ _ _ _ _ (c .received .ensures)
+    (goes-as _ _ _ (λ i. changes (receives (x .h) (x .hash0) (x .e) (sym (at-source-of .ensures) i))) _ _ _ _ (at-mark-received-from .ensures))
 
 pub receives-spec : {M : Type 1} → statement M
-receives-spec = tie.close (tie.spec source-of-requires mark-received-from-requires received-requires same-length returns)
+receives-spec =
+    tie.close (tie.spec (λ c κs. search needs) (λ c κs. search needs) (λ c κs. search needs) (λ c. search needs) returns)

@@ -8,56 +8,70 @@ use Rattle.replayed.specs.Told.{is-number, is-pair, is-perhaps, is-perha
 use Rattle.replayed.proofs.asks.query.Statement.{statement}
 use Rattle.replayed.proofs.asks.query.Tie as tie
 
-number-requires : tie.Need-number-requires
-number-requires c κs = search needs
-
-number-requires-2 : tie.Need-number-requires-2
-number-requires-2 c κs = search needs
-
 returns : tie.Need-returns
-returns c = row-as _ _ _ (is-number (c .before .before .before .before .args .a) (c .before .before .before .before .args .kind) (c .before .before .if1 .taken)) _ (c .number2 .ensures ∙ ap (λ (y : Answer). number-row (number-flat y)) (c .before .number .ensures))
-
-truth-requires : tie.Need-truth-requires
-truth-requires c κs = search needs
-
-truth-requires-2 : tie.Need-truth-requires-2
-truth-requires-2 c κs = search needs
+returns c =
+    let start = c .before .before .before .before in
+    let at-if1 = c .before .before .if1 in
+    let at-number = c .before .number in
+    row-as _ _ _ (is-number (start .args .a) (start .args .kind) (at-if1 .taken)) _
+    (c .number2 .ensures ∙ ap (λ (y : Answer). number-row (number-flat y)) (at-number .ensures))
 
 returns-2 : tie.Need-returns-2
-returns-2 c = row-as _ _ _ (is-truth (c .before .before .before .before .before .args .a) (c .before .before .before .before .before .args .kind) (c .before .before .before .if1 .left) (c .before .before .if2 .taken)) _ (c .truth2 .ensures ∙ ap (λ (y : Answer). number-row (number-flat y)) (c .before .truth .ensures))
-
-pair-requires : tie.Need-pair-requires
-pair-requires c κs = search needs
-
-pair-requires-2 : tie.Need-pair-requires-2
-pair-requires-2 c κs = search needs
+returns-2 c =
+    let start = c .before .before .before .before .before in
+    let at-if1 = c .before .before .before .if1 in
+    let at-if2 = c .before .before .if2 in
+    let at-truth = c .before .truth in
+    row-as _ _ _ (is-truth (start .args .a) (start .args .kind) (at-if1 .left) (at-if2 .taken)) _
+    (c .truth2 .ensures ∙ ap (λ (y : Answer). number-row (number-flat y)) (at-truth .ensures))
 
 returns-3 : tie.Need-returns-3
-returns-3 c = row-as _ _ _ (is-pair (c .before .before .before .before .before .before .args .a) (c .before .before .before .before .before .before .args .kind) (c .before .before .before .before .if1 .left) (c .before .before .before .if2 .left) (c .before .before .if3 .taken)) _ (c .pair2 .ensures ∙ ap (λ (y : Answer). pair-row (pair-flat y)) (c .before .pair .ensures))
-
-perhaps-pair-requires : tie.Need-perhaps-pair-requires
-perhaps-pair-requires c κs = search needs
-
-perhaps-pair-requires-2 : tie.Need-perhaps-pair-requires-2
-perhaps-pair-requires-2 c κs = search needs
+returns-3 c =
+    let start = c .before .before .before .before .before .before in
+    let at-if1 = c .before .before .before .before .if1 in
+    let at-if2 = c .before .before .before .if2 in
+    let at-if3 = c .before .before .if3 in
+    let at-pair = c .before .pair in
+    row-as _ _ _ (is-pair (start .args .a) (start .args .kind) (at-if1 .left) (at-if2 .left) (at-if3 .taken)) _
+    (c .pair2 .ensures ∙ ap (λ (y : Answer). pair-row (pair-flat y)) (at-pair .ensures))
 
 returns-4 : tie.Need-returns-4
-returns-4 c = row-as _ _ _ (is-perhaps-pair (c .before .before .before .before .before .before .before .args .a) (c .before .before .before .before .before .before .before .args .kind) (c .before .before .before .before .before .if1 .left) (c .before .before .before .before .if2 .left) (c .before .before .before .if3 .left) (c .before .before .if4 .taken)) _ (c .perhaps-pair2 .ensures ∙ ap (λ (y : Answer). perhaps-pair-row (perhaps-pair-flat y)) (c .before .perhaps-pair .ensures))
-
-perhaps-requires : tie.Need-perhaps-requires
-perhaps-requires c κs = search needs
-
-perhaps-requires-2 : tie.Need-perhaps-requires-2
-perhaps-requires-2 c κs = search needs
+returns-4 c =
+    let start = c .before .before .before .before .before .before .before in
+    let at-if1 = c .before .before .before .before .before .if1 in
+    let at-if2 = c .before .before .before .before .if2 in
+    let at-if3 = c .before .before .before .if3 in
+    let at-if4 = c .before .before .if4 in
+    let at-perhaps-pair = c .before .perhaps-pair in
+    row-as _ _ _ (is-perhaps-pair (start .args .a) (start .args .kind) (at-if1 .left) (at-if2 .left) (at-if3 .left) (at-if4 .taken)) _
+    (c .perhaps-pair2 .ensures ∙ ap (λ (y : Answer). perhaps-pair-row (perhaps-pair-flat y)) (at-perhaps-pair .ensures))
 
 returns-5 : tie.Need-returns-5
-returns-5 c = row-as _ _ _ (is-perhaps (c .before .before .before .before .before .before .before .before .args .a) (c .before .before .before .before .before .before .before .before .args .kind) (c .before .before .before .before .before .before .if1 .left) (c .before .before .before .before .before .if2 .left) (c .before .before .before .before .if3 .left) (c .before .before .before .if4 .left) (c .before .before .if5 .taken)) _ (c .perhaps2 .ensures ∙ ap (λ (y : Answer). perhaps-row (perhaps-flat y)) (c .before .perhaps .ensures))
-
-plan-requires : tie.Need-plan-requires
-plan-requires c κs = search needs
+returns-5 c =
+    let start = c .before .before .before .before .before .before .before .before in
+    let at-if1 = c .before .before .before .before .before .before .if1 in
+    let at-if2 = c .before .before .before .before .before .if2 in
+    let at-if3 = c .before .before .before .before .if3 in
+    let at-if4 = c .before .before .before .if4 in
+    let at-if5 = c .before .before .if5 in
+    let at-perhaps = c .before .perhaps in
+    row-as _ _ _ (is-perhaps (start .args .a) (start .args .kind) (at-if1 .left) (at-if2 .left) (at-if3 .left) (at-if4 .left) (at-if5 .taken)) _
+    (c .perhaps2 .ensures ∙ ap (λ (y : Answer). perhaps-row (perhaps-flat y)) (at-perhaps .ensures))
 
 returns-6 : tie.Need-returns-6
-returns-6 c = row-as _ _ _ (is-plan (c .before .before .before .before .before .before .before .args .a) (c .before .before .before .before .before .before .before .args .kind) (c .before .before .before .before .before .if1 .left) (c .before .before .before .before .if2 .left) (c .before .before .before .if3 .left) (c .before .before .if4 .left) (c .before .if5 .left)) _ (c .plan .ensures)
+returns-6 c =
+    let start = c .before .before .before .before .before .before .before in
+    let at-if1 = c .before .before .before .before .before .if1 in
+    let at-if2 = c .before .before .before .before .if2 in
+    let at-if3 = c .before .before .before .if3 in
+    let at-if4 = c .before .before .if4 in
+    let at-if5 = c .before .if5 in
+    row-as _ _ _ (is-plan (start .args .a) (start .args .kind) (at-if1 .left) (at-if2 .left) (at-if3 .left) (at-if4 .left) (at-if5 .left)) _
+    (c .plan .ensures)
 
 pub query-spec : {M : Type 1} → statement M
-query-spec = tie.close (tie.spec number-requires number-requires-2 returns truth-requires truth-requires-2 returns-2 pair-requires pair-requires-2 returns-3 perhaps-pair-requires perhaps-pair-requires-2 returns-4 perhaps-requires perhaps-requires-2 returns-5 plan-requires returns-6)
+query-spec =
+    tie.close
+    (tie.spec (λ c κs. search needs) (λ c κs. search needs) returns (λ c κs. search needs) (λ c κs. search needs) returns-2 (λ c κs. search needs)
+    (λ c κs. search needs) returns-3 (λ c κs. search needs) (λ c κs. search needs) returns-4 (λ c κs. search needs) (λ c κs. search needs) returns-5
+    (λ c κs. search needs) returns-6)
