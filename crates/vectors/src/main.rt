@@ -1,6 +1,5 @@
 // Replays the calls that the oracle recorded (stdin; VECTORS.md says how they were made): each answer, each report and all words after each call
-// are compared with the recorded ones, part by part (crates/recorded), and what differs is named. Every call is a public one; those that let go are lent a
-// report by crates/lend.
+// are compared with the recorded ones, part by part (crates/recorded), and what differs is named. Every call is a public one, made by crates/replayed.
 use recorded::Record;
 use recorded::Same;
 use recorded::compare::compared;
