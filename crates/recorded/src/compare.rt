@@ -10,6 +10,8 @@ use crate::Said;
 use crate::Same;
 use crate::stream::get;
 use crate::stream::on;
+use model::of_release;
+use model::sizes;
 
 // Whether a word is none of the part that is compared: of each `every` words those from the first to before the last.
 fn skips(i: usize, every: usize, first: usize, last: usize) -> bool
@@ -65,10 +67,24 @@ fn same_row(fields: [u64; 32], numbers: &[u64], r: Record, first: usize, last: u
 }
 
 // Words of each place of the report.
-fn same_places(gone: [u64; 2304], numbers: &[u64], r: Record, first: usize, last: usize) -> bool
+fn same_places(
+    gone: [u64; sizes::REPORT_WORDS],
+    numbers: &[u64],
+    r: Record,
+    first: usize,
+    last: usize,
+) -> bool
     ensures { λ b. ⌜ b ≡ same-part 9 first last gone (now (numbers .entry)) (r .gone) (r .words) (length gone) ⌝ }
 {
-    same_part(&gone, numbers, r.gone, r.words, 9, first, last)
+    same_part(
+        &gone,
+        numbers,
+        r.gone,
+        r.words,
+        sizes::RELEASE_WORDS,
+        first,
+        last,
+    )
 }
 
 // The report: the first four of a place's nine words are its hash, the ninth is its reason.
@@ -87,9 +103,9 @@ pub fn compared(s: Said, words: &[u64], expected: &[u64], numbers: &[u64], r: Re
     let gone = s.gone;
     let refusal = same_row(fields, numbers, r, 0, 1);
     let answer = same_row(fields, numbers, r, 1, 32);
-    let order = same_places(gone, numbers, r, 0, 4);
-    let values = same_places(gone, numbers, r, 4, 8);
-    let reasons = same_places(gone, numbers, r, 8, 9);
+    let order = same_places(gone, numbers, r, 0, sizes::HASH_WORDS);
+    let values = same_places(gone, numbers, r, of_release::OWNER, of_release::REASON);
+    let reasons = same_places(gone, numbers, r, of_release::REASON, sizes::RELEASE_WORDS);
     let all = same_words(words, expected);
     Same {
         refusal,

@@ -17,6 +17,7 @@ ghost use Rattle.request_order.specs.Order.{Ordered};
 ghost use Rattle.request_order.specs.Rows.{row-at, in-order};
 ghost use Rattle.request_many.specs.Fill.{Fillable};
 use model::Entry;
+use model::head;
 use model::sizes;
 
 // ---- every record once
@@ -108,8 +109,8 @@ fn fill_all(
     let bytes = before + n as u64 * mean;
     let count = m + n;
     fill(words, hashes, heights, order, m, count, owner, clock, mean);
-    layout::set_word(words, 1, count as u64);
-    layout::set_word(words, 3, bytes);
+    layout::set_word(words, head::COUNT, count as u64);
+    layout::set_word(words, head::TOTAL, bytes);
 }
 
 // ---- the request
