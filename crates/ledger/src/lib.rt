@@ -2,12 +2,13 @@
 // totals it reads nothing: they are compared with it at the end.
 ghost use mathlib.Core.Path.{_≡_};
 ghost use Prim.Native.Nat.{_≤_};
-ghost use lib.ListN.{getD};
 ghost use Rattle.model.specs.Numbers.{lesser};
 ghost use Rattle.ledger.specs.Book.{capped, added, capped-sum, place-of, weight, one-more, tallied, adds-up, balanced, value, empty, opened, of-request, of-fetch, let-go, column};
 use model::Fetch;
 use model::Number;
 use model::Requested;
+use model::of_release;
+use model::sizes;
 
 // What was opened, and what was let go by reason, in blocks and in bytes.
 pub struct Book {
@@ -89,15 +90,19 @@ fn one_more(l: [u64; 11], reason: u64, by: u64) -> [u64; 11]
 }
 
 // What the first n places of a report let go, by reason: in blocks, or in bytes.
-fn tally(l: [u64; 11], gone: [u64; 2304], n: usize, bytes: bool) -> [u64; 11]
+fn tally(l: [u64; 11], gone: [u64; sizes::REPORT_WORDS], n: usize, bytes: bool) -> [u64; 11]
     ensures { λ r. ⌜ r ≡ tallied bytes gone (lesser n 256) l ⌝ }
 {
     let mut m = l;
     let most = at_most(n);
     let mut i: usize = 0;
     while i < most {
-        let k = 9 * i;
-        let x = one_more(m, gone[k + 8], weight(bytes, gone[k + 7]));
+        let k = sizes::RELEASE_WORDS * i;
+        let x = one_more(
+            m,
+            gone[k + of_release::REASON],
+            weight(bytes, gone[k + of_release::ESTIMATE]),
+        );
         m = x;
         i += 1;
     }
@@ -108,10 +113,10 @@ fn tally(l: [u64; 11], gone: [u64; 2304], n: usize, bytes: bool) -> [u64; 11]
 fn at_most(n: usize) -> usize
     ensures { λ r. ⌜ (r ≡ lesser n 256) × (r ≤ 256) ⌝ }
 {
-    if n <= 256 {
+    if n <= sizes::PLACES {
         return n;
     }
-    256
+    sizes::PLACES
 }
 
 fn sum(l: [u64; 11]) -> u64
@@ -206,7 +211,7 @@ pub fn fetched(b: Book, answer: Fetch, mean: Number) -> Book
 }
 
 // What the first n places of a report let go.
-pub fn let_go(b: Book, report: [u64; 2304], n: usize) -> Book
+pub fn let_go(b: Book, report: [u64; sizes::REPORT_WORDS], n: usize) -> Book
     ensures { λ r. ⌜ r ≡ let-go b report n ⌝ }
 {
     let x = b.gone;
