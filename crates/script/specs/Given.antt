@@ -50,7 +50,7 @@ heights (suc i) first = set (heights i first) i (height-after first i)
 unfoldable pub blocks-of : ℕ → ℕ → Blocks
 blocks-of first count = record { hashes = hashes 8 first; heights = heights 8 first; count = lesser count 8; next = height-after first (lesser count 8) }
 
--- a call that names no peer has 0 there, one about no blocks 0 of them
+-- a call that names no peer has 0 there, one about no blocks 0 of them; of more than eight only eight are named
 unfoldable pub call-of : Step → Call
 call-of s = record {
   time = s .time;
@@ -60,7 +60,7 @@ call-of s = record {
   blocks = ltb 0 (s .count);
   first = s .first;
   ranged = ltb 1 (s .count);
-  last = s .first + (s .count - 1);
+  last = s .first + (lesser (s .count) 8 - 1);
 }
 
 -- what the window says is pending: blocks, bytes, and the peer's blocks

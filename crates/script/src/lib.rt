@@ -245,13 +245,15 @@ pub fn blocks_of(first: u32, count: u32) -> Blocks
 
 // ---- the line that is written of a call
 
+// Of more than eight only eight are named, as `blocks_of` has them.
 fn last_of(first: u32, count: u32) -> u64
-    ensures { λ r. ⌜ r ≡ first + (count - 1) ⌝ }
+    ensures { λ r. ⌜ r ≡ first + (lesser count 8 - 1) ⌝ }
 {
-    if count == 0 {
+    let named = at_most_eight(count);
+    if named == 0 {
         return first as u64;
     }
-    (first as u64) + ((count - 1) as u64)
+    (first as u64) + ((named - 1) as u64)
 }
 
 fn call_of(s: Step) -> Call
