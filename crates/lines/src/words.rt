@@ -1,7 +1,7 @@
 // The words of the demo. An answer is a head, a number or none, and a tail.
 ghost use mathlib.Core.Path.{_≡_};
 ghost use mathlib.Core.List.{[]};
-ghost use Prim.Native.Nat.{_≤_, _<_};
+ghost use Prim.Native.Nat.{_≤_};
 ghost use lib.ListN.{getD};
 ghost use Rattle.model.specs.Numbers.{lesser};
 ghost use Rattle.lines.specs.Words.{calls, heads, tails, refusals, entries, verdicts, accepted, requested, fetched, let-go, got, received, rejected, blocked};

@@ -1,5 +1,5 @@
 -- What a call says, as a row of 32 words.
-use mathlib.Core.List.{List, _∷_, _++_, []}
+use mathlib.Core.List.{List, _∷_}
 use Prim.Native.Nat.{ℕ}
 use lib.ListN.{replicate}
 use Rattle.model.specs.declared.Hash.{Hash}
