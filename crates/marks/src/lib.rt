@@ -4,7 +4,7 @@ ghost use mathlib.Core.Path.{_≡_};
 ghost use mathlib.Core.Bool.{cond, not, _&&_};
 ghost use mathlib.Core.List.{map};
 ghost use Prim.Native.Nat.{_+_, _-_, _<_, _≤_, suc};
-ghost use lib.ListN.{length, take, getD};
+ghost use lib.ListN.{length, take};
 ghost use lib.Dec.{eqb, ltb, leb};
 ghost use Rattle.model.specs.Numbers.{max-clock, max-estimate};
 ghost use Rattle.model.specs.Time.{expired, effective-owner-timeout, active};

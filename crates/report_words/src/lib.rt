@@ -1,7 +1,6 @@
 // What went, as a flat list of words: nine for a release, room for 256. The core of a lent report.
 ghost use mathlib.Core.Path.{_≡_};
 ghost use mathlib.Core.List.{_++_, _∷_, []};
-ghost use mathlib.Core.Bool.{_||_};
 ghost use Prim.Native.Nat.{_+_, _-_, _*_, _<_, _≤_, suc};
 ghost use lib.ListN.{length, take};
 ghost use Rattle.model.specs.Lists.{any};

@@ -6,7 +6,6 @@ ghost use Rattle.model.specs.Window.{Window};
 ghost use Rattle.model.specs.Observation.{stuck-anew, stuck-still, evicted-by, advance-apply-side-stuck, is-above, blocks, stalled-since, armed-by};
 ghost use Rattle.watch.specs.Answers.{stepped, timeout-answer};
 use model::Blocked;
-use model::ColdFront;
 use model::Entry;
 use model::Front;
 use model::Hash;
