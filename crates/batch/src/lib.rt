@@ -2,7 +2,7 @@
 // the oldest request that every seat has left, filled once.
 ghost use mathlib.Core.Path.{_≡_};
 ghost use Prim.Native.Nat.{_<_, _≤_};
-ghost use lib.ListN.{length, getD};
+ghost use lib.ListN.{length};
 ghost use Rattle.model.specs.Numbers.{max-clock};
 ghost use Rattle.model.specs.Seats.{sooner};
 ghost use Rattle.model.specs.LettingGo.{resets};

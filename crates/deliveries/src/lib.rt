@@ -1,7 +1,6 @@
 // SPECIFICATION 7.4 to 7.6, 7.17, 7.18: what deliveries, rejections and the smaller calls change without letting go, in words that hold a window.
 // Contracts as in `state`: the words hold the model's step of the window that they held. The last clock is not set here: the public call does it
 // last.
-ghost use mathlib.Core.Path.{_≡_};
 ghost use Prim.Native.Nat.{_≤_};
 ghost use Rattle.model.specs.Numbers.{max-estimate, max-body};
 ghost use Rattle.model.specs.Calls.{credit-duplicate-delivery, record-delivery-progress, progress-by, next-mean, rejected-by, set-fanout-eligible-peers, clear-preferred-peer};

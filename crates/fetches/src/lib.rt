@@ -1,6 +1,5 @@
 // SPECIFICATION 7.3: an owned fetch, in words that hold a window. Contracts as in `state`; the last clock is not set here.
 ghost use mathlib.Core.Path.{_≡_};
-ghost use mathlib.Core.List.{_∷_, []};
 ghost use Prim.Native.Nat.{_≤_};
 ghost use Rattle.model.specs.Numbers.{max-seat};
 ghost use Rattle.model.specs.Calls.{asked, fetched, mark-owned-fetch, owned-fetch};

@@ -3,7 +3,7 @@ ghost use mathlib.Core.Path.{_≡_};
 ghost use mathlib.Core.Bool.{true};
 ghost use Prim.Native.Nat.{suc, _<_, _≤_};
 ghost use lib.ListN.{length};
-ghost use Rattle.model.specs.Numbers.{max-seat, max-front-mean};
+ghost use Rattle.model.specs.Numbers.{max-front-mean};
 ghost use Rattle.model.specs.Capacity.{has-request-capacity, compute-request-capacity, effective-peer-inflight};
 ghost use Rattle.model.specs.Pace.{stall-decay-floor};
 ghost use Rattle.model.specs.Records.{found, is-there};
