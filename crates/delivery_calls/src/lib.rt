@@ -18,7 +18,6 @@ ghost use Rattle.laws.specs.Sound.{Sound, SoundSource};
 ghost use Rattle.laws.specs.Whole.{Whole, Holds};
 ghost use Rattle.report_words.specs.Report.{releases-of};
 ghost use Rattle.delivery_calls.specs.Receives.{delivered, taken};
-use model::Entry;
 use model::Front;
 use model::Hash;
 use model::Height;
