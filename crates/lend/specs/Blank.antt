@@ -1,8 +1,6 @@
 -- A report of 256 places, none of them filled.
 use mathlib.Core.List.{List}
 use lib.ListN.{replicate}
-use Rattle.model.specs.declared.Hash.{Hash}
-use Rattle.model.specs.declared.Entry.{Entry}
 use Rattle.model.specs.declared.Release.{Release}
 
 abbrev pub blank : Release
