@@ -12,6 +12,8 @@ use lines::Said;
 use model::Accepted;
 use model::Sought;
 use model::Source;
+use model::of_release;
+use model::sizes;
 use script::Step;
 
 pub struct Outcome {
@@ -21,6 +23,9 @@ pub struct Outcome {
 
 // More room for staged blocks than the script needs.
 const ROOM: u64 = 1_000_000_000;
+
+// the reason of the report's second place: the first is the block that came
+const SECOND_REASON: usize = sizes::RELEASE_WORDS + of_release::REASON;
 
 // A request of `count` blocks from the first on, at most eight: as many as are handed in are booked.
 fn ask(words: &mut [u64], b: Book, s: Step) -> Outcome
@@ -69,7 +74,7 @@ fn receive(words: &mut [u64], b: Book, s: Step) -> Outcome
     let r = l.answer;
     let gone = l.gone;
     Outcome {
-        said: lines::words::received(r, gone[17]),
+        said: lines::words::received(r, gone[SECOND_REASON]),
         book: ledger::let_go(b, gone, l.places),
     }
 }
@@ -112,7 +117,7 @@ fn let_go(words: &mut [u64], b: Book, s: Step) -> Outcome
     let r = l.answer;
     let gone = l.gone;
     Outcome {
-        said: lines::words::let_go(r, gone[8]),
+        said: lines::words::let_go(r, gone[of_release::REASON]),
         book: ledger::let_go(b, gone, l.places),
     }
 }
