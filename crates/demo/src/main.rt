@@ -1,5 +1,6 @@
 // A node catches up through twelve peers: a script of calls, one line each, and the book at the end.
 ghost use mathlib.Core.Path.{_≡_};
+ghost use lib.ListN.{set};
 ghost use Rattle.ledger.specs.Book.{balanced, capped-sum};
 ghost use Rattle.lines.specs.Words.{verdicts};
 use ledger::Book;
@@ -167,6 +168,16 @@ fn verdict(b: Book, pending: u64, pending_bytes: u64) -> [u8; 74]
     lines::words::verdict(right)
 }
 
+// What went by reason, with those that lost a hedge left out.
+fn without_hedges(gone: [u64; 11]) -> [u64; 11]
+    ensures { λ r. ⌜ r ≡ set gone 10 0 ⌝ }
+{
+    let mut l = gone;
+    l[10] = 0;
+    l
+}
+
+// The book and the verdict on it. The same book without one of its entries is judged too, so that both verdicts are seen.
 fn close(words: &[u64], b: Book) {
     let pending = ledger::value(window_queries::pending_len(words));
     let bytes = ledger::value(window_queries::pending_bytes(words));
@@ -179,6 +190,15 @@ fn close(words: &[u64], b: Book) {
     );
     let v = verdict(b, pending, bytes);
     put(&v);
+    put(b"\nThe same book without the block that went in the hedge:\n");
+    let lacking = Book {
+        blocks: b.blocks,
+        bytes: b.bytes,
+        gone: without_hedges(l),
+        gone_bytes: without_hedges(m),
+    };
+    let w = verdict(lacking, pending, bytes);
+    put(&w);
 }
 
 fn blank() -> [u64; 4096] {
