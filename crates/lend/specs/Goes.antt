@@ -28,12 +28,20 @@ Goes call ws ws′ a n gone =
 pub goes-as : (ws : List ℕ) (p q : Call) → p ≡ q → (ws′ : List ℕ) (a : Answer) (n : ℕ) (gone : List ℕ) → Goes q ws ws′ a n gone → Goes p ws ws′ a n gone
 goes-as ws p q e ws′ a n gone h = subst (λ (x : Call). Goes x ws ws′ a n gone) (sym e) h
 
+-- and of the call that a number picks what is promised of the one that stands beside the number
+pub goes-at : (by : ℕ → Call) {k j : ℕ} → k ≡ j → {q : Call} → by j ≡ q → (ws ws′ : List ℕ) (a : Answer) (n : ℕ) (gone : List ℕ) → Goes q ws ws′ a n gone
+    → Goes (by k) ws ws′ a n gone
+goes-at by e f ws ws′ a n gone h = goes-as ws _ _ (ap by e ∙ f) ws′ a n gone h
+
 -- the same of a call that was lent no report
 abbrev pub Leaves : Call → List ℕ → Answer → List ℕ → Type 0
 Leaves call ws a ws′ = (a ≡ perform call ws [] .answer) × (ws′ ≡ perform call ws [] .words)
 
 pub leaves-as : (ws : List ℕ) (p q : Call) → p ≡ q → (a : Answer) (ws′ : List ℕ) → Leaves q ws a ws′ → Leaves p ws a ws′
 leaves-as ws p q e a ws′ h = subst (λ (x : Call). Leaves x ws a ws′) (sym e) h
+
+pub leaves-at : (by : ℕ → Call) {k j : ℕ} → k ≡ j → {q : Call} → by j ≡ q → (ws : List ℕ) (a : Answer) (ws′ : List ℕ) → Leaves q ws a ws′ → Leaves (by k) ws a ws′
+leaves-at by e f ws a ws′ h = leaves-as ws _ _ (ap by e ∙ f) a ws′ h
 
 -- ---- a call that lets nothing go: a report has no part in its refusal, and nothing goes
 

@@ -1,6 +1,6 @@
 -- What the calls promise, said of the step of the script that makes them. Assumes nothing.
 use mathlib.Core.Path.{_≡_, refl, sym, ap, subst, _∙_}
-use mathlib.Core.Bool.{cond}
+use mathlib.Core.Bool.{Bool, cond}
 use mathlib.Core.List.{List, []}
 use Prim.Native.Nat.{ℕ}
 use lib.ListN.{getD, replicate}
@@ -147,10 +147,12 @@ quiet-changing s call =
 -- ---- which step it is
 
 module _ (s : Step) where
-  pub is-step : (n : ℕ) → s .call ≡ n → play-of s ≡ play-by s n
+  pub plays-step : {n : ℕ} → s .call ≡ n → (b : Book) (ws ws′ : List ℕ) (r : Outcome) → Plays (play-by s n) b ws ws′ r → Plays (play-of s) b ws ws′ r
   unfolding play-of
-  is-step n e = ap (play-by s) e
+  plays-step e b ws ws′ r h = plays-as _ _ (ap (play-by s) e) b ws ws′ r h
 
-  pub is-other : Missed (steps s) (s .call) (Unit {0}) → play-of s ≡ cond (lets-go (s .call)) (letting s) (doing s)
+  pub plays-other : Missed (steps s) (s .call) (Unit {0}) → {l : Bool} → lets-go (s .call) ≡ l → (b : Book) (ws ws′ : List ℕ) (r : Outcome)
+      → Plays (cond l (letting s) (doing s)) b ws ws′ r → Plays (play-of s) b ws ws′ r
   unfolding play-of
-  is-other m = picks-other (steps s) _ (s .call) _ m
+  plays-other m e b ws ws′ r h =
+      plays-as _ _ (picks-other (steps s) _ (s .call) _ m ∙ ap (λ (l : Bool). cond l (letting s) (doing s)) e) b ws ws′ r h

@@ -8,7 +8,7 @@ use lib.Dec.{eqb, leb}
 use lib.ListN.{replicate}
 use Rattle.model.specs.Lists.{pad}
 use Rattle.model.specs.Queries.{Query, reads, probe-plan}
-use Rattle.model.specs.Refusals.{Call, changes, queries, clears-preferred}
+use Rattle.model.specs.Refusals.{Change, Call, changes, queries, checks, clears-preferred}
 use Rattle.model.specs.Perform.{Answer, perform}
 use Rattle.model.specs.declared.Plan.{Plan}
 use Rattle.model.specs.declared.Plan.the-variants.{Refused, NoPlan, Planned}
@@ -23,13 +23,21 @@ use Rattle.recorded.specs.Said.{plan-row, alone}
 use Rattle.recorded.specs.declared.Args.{Args}
 use Rattle.recorded.specs.declared.Said.{Said}
 use Rattle.recorded.specs.Args.{args-at}
-use Rattle.lend.specs.Cases.{pick, picks-such}
+use Rattle.lend.specs.Cases.{Missed, pick, picks-other, picks-such}
 use Rattle.replayed.specs.Calls.{Recorded, Question, Performs, says-asked, asks-number, asks-pair, asks-perhaps, asks-perhaps-pair, number-query, truth-query, pair-query, perhaps-query, perhaps-pair-query, plan-part, query-at, calls-done, done-at, calls-told, says-done, quiet-at, says-received, says-rejected, says-gone, letting-go, lets-go, call-at}
 
 -- ---- of one call what is promised of another that it is
 
 pub asked-as : (ws : List ℕ) (p q : Query) → p ≡ q → (a : Answer) → a ≡ perform (queries q) ws [] .answer → a ≡ perform (queries p) ws [] .answer
 asked-as ws p q e a h = subst (λ (x : Query). a ≡ perform (queries x) ws [] .answer) (sym e) h
+
+-- of the query that a number picks what is promised of the one that stands beside the number, or for every other
+pub asked-at : (by : ℕ → Query) (ws : List ℕ) {k j : ℕ} → k ≡ j → {a : Answer} → a ≡ perform (queries (by j)) ws [] .answer → a ≡ perform (queries (by k)) ws [] .answer
+asked-at by ws e h = asked-as ws _ _ (ap by e) _ h
+
+pub asked-other : (l : List (ℕ × Query)) (other : Query) (ws : List ℕ) (k : ℕ) → Missed l k (Unit {0}) → {a : Answer} → a ≡ perform (queries other) ws [] .answer
+    → a ≡ perform (queries (pick l other k)) ws [] .answer
+asked-other l other ws k m h = asked-as ws _ _ (picks-other l other k _ m) _ h
 
 pub performs-as : (ws : List ℕ) (p q : Recorded) → p ≡ q → (ws′ : List ℕ) (r : Said) → Performs q ws ws′ r → Performs p ws ws′ r
 performs-as ws p q e ws′ r h = subst (λ (x : Recorded). Performs x ws ws′ r) (sym e) h
@@ -120,7 +128,20 @@ module _ (ns : List ℕ) (place : ℕ) (x : Args) (kind : ℕ) where
       (quiet-change clears-preferred refl)
       kind
 
+  -- past the queries, the call that stands beside the number
+  pub tells : kind < 19 → {j : ℕ} → kind ≡ j → (c : Change) (row-of : Answer → List ℕ)
+      → pick (calls-told ns place x) (says-done (done-at ns place x kind)) j ≡ record { call = changes c; row-of = row-of } → checks c .lets-go ≡ false
+      → (ws ws′ : List ℕ) (a : Answer) (fields : List ℕ) → fields ≡ row-of a → Leaves (changes c) ws a ws′ → Performs (quiet-at ns place x kind) ws ws′ (alone fields)
+  tells h e c row-of p q ws ws′ a fields f l =
+      performs-as ws _ _ (is-call h ∙ ap (pick (calls-told ns place x) (says-done (done-at ns place x kind))) e ∙ p) ws′ (alone fields)
+      (performs-quietly (changes c) (quiet-change c q) row-of ws ws′ a fields f l)
+
 module _ (ns : List ℕ) (place kind : ℕ) where
+  -- by the arguments as they were read
+  pub performs-by : {x : Args} → x ≡ args-at ns place → (by : Args → Recorded) → call-at ns place kind ≡ by (args-at ns place) → (ws ws′ : List ℕ) (r : Said)
+      → Performs (by x) ws ws′ r → Performs (call-at ns place kind) ws ws′ r
+  performs-by e by f ws ws′ r h = performs-as ws _ _ (f ∙ ap by (sym e)) ws′ r h
+
   pub is-received : kind ≡ 4 → call-at ns place kind ≡ says-received (args-at ns place)
   unfolding call-at
   is-received e = rw (eq-eqb kind 4 e)

@@ -1,69 +1,52 @@
 -- `letting_go::mark_received_from` meets its contract. Assumes nothing.
-use mathlib.Core.Path.{_≡_, refl, sym, subst}
-use Prim.Native.Nat.{ℕ, _≤_}
+use mathlib.Core.Path.{_≡_, refl, subst}
+use mathlib.Core.Bool.{Bool, true}
 use native.Mathlib.Omega.{arith}
 use borrow.Author.Needs.{needs}
 use Rattle.model.specs.Numbers.{read-clock}
-use Rattle.model.specs.Refusals.{Change, checks, receives, window-refusal, checking, at, body-refusal}
+use Rattle.model.specs.Refusals.{Change, at, body-refusal, checking, checks, receives, window-refusal}
 use Rattle.refusals.specs.Outcomes.{admitted}
-use Rattle.letting_go.specs.Letting.{lets-refused, lets-at}
-use mathlib.Core.Bool.{Bool, true}
-use lib.ListN.{length}
-use Rattle.model.specs.Calls.{mark-received-from}
-use Rattle.model.specs.Layout.{window-of}
 use Rattle.laws.specs.Kept.{body-le}
+use Rattle.letting_go.specs.Letting.{lets-refused}
+use Rattle.model.specs.Layout.{window-of}
+use Rattle.letting_go.proofs.Steps.{lets-step}
 use Rattle.letting_go.proofs.mark_received_from.Statement.{statement}
 use Rattle.letting_go.proofs.mark_received_from.Tie as tie
 
-source-ok-requires : tie.Need-source-ok-requires
-source-ok-requires c κs = search needs
+-- the change that it is
+abbrev is : tie.Start → Change
+is s = receives (s .args .clock) (s .args .h) (s .args .bytes) (s .args .source)
 
-body-refused-by-requires : tie.Need-body-refused-by-requires
-body-refused-by-requires c κs = search needs
-
-same-length : tie.Need-same-length
-same-length c = refl
+-- its refusal, with the test of its source as the definition has it
+refused : (c : tie.After-body-refused-by) → c .body-refused-by .result ≡ window-refusal (checks (is (c .before .before .before .before .before))) (c .before .before .before .before .before .args .words .now) (c .before .before .before .before .before .args .room)
+refused c =
+    let a = c .before .before .before .before .before .args in
+    subst (λ (p : Bool). c .body-refused-by .result ≡ window-refusal (checking true (at (a .clock)) p (body-refusal (a .bytes))) (a .words .now) (a .room))
+    (c .before .before .source-ok .ensures) (c .body-refused-by .ensures)
 
 returns : tie.Need-returns
-returns c =
-    let a = c .before .before .before .before .before .before .args in
-    let ws = a .words .now in
-    let x : Change = receives (a .clock) (a .h) (a .bytes) (a .source) in
-    let k = c .before .body-refused-by in
-    let e = subst (λ (p : Bool). k .result ≡ window-refusal (checking true (at (a .clock)) p (body-refusal (a .bytes))) ws (a .room)) (c .before .before .before .source-ok .ensures) (k .ensures) in
-    lets-refused (length (a .gone .now)) x ws (a .room) (k .result) e (a .gone .now) (c .if1 .taken)
+returns c = lets-refused _ (is (c .before .before .before .before .before .before)) _ _ _ (refused (c .before)) _ (c .if1 .taken)
 
 mark-received-from-requires : tie.Need-mark-received-from-requires
 unfolding read-clock
 mark-received-from-requires c κs =
-    let a = c .before .before .before .before .before .before .before .before .args in
-    let ws = a .words .now in
-    let x : Change = receives (a .clock) (a .h) (a .bytes) (a .source) in
-    let k = c .before .before .before .body-refused-by in
-    let e = subst (λ (p : Bool). k .result ≡ window-refusal (checking true (at (a .clock)) p (body-refusal (a .bytes))) ws (a .room)) (c .before .before .before .before .before .source-ok .ensures) (k .ensures) in
-    let g = admitted (checks x) ws (a .room) (k .result) e (c .before .before .if1 .left) in
-    (g .whole, (g .sound-at, (c .before .before .before .before .before .before .before .before .pre, (body-le (a .bytes) (window-of ws) (g .passes .content), g .passes .peers))))
+    let here = c .before .before in
+    let s = here .before .before .before .before .before .before in
+    let g = admitted (checks (is s)) _ _ _ (refused (here .before)) (here .if1 .left) in
+    (g .whole, (g .sound-at, (s .pre, (body-le (s .args .bytes) (window-of (s .args .words .now)) (g .passes .content), g .passes .peers))))
 
 set-clock-requires : tie.Need-set-clock-requires
 set-clock-requires c κs = c .before .before .before .before .before .mark-received-from .ensures .2 .whole
 
-same-length-2 : tie.Need-same-length-2
-same-length-2 c = search needs
-
-same-length-3 : tie.Need-same-length-3
-same-length-3 c = search needs
-
 returns-2 : tie.Need-returns-2
 returns-2 c =
-    let a = c .before .before .before .before .before .before .before .before .before .before .before .before .before .before .before .before .before .args in
-    let ws = a .words .now in
-    let x : Change = receives (a .clock) (a .h) (a .bytes) (a .source) in
-    let k = c .before .before .before .before .before .before .before .before .before .before .before .before .body-refused-by in
-    let e = subst (λ (p : Bool). k .result ≡ window-refusal (checking true (at (a .clock)) p (body-refusal (a .bytes))) ws (a .room)) (c .before .before .before .before .before .before .before .before .before .before .before .before .before .before .source-ok .ensures) (k .ensures) in
+    let here = c .before .before .before .before .before .before .before .before .before .before .before in
+    let s = here .before .before .before .before .before .before in
     let p = c .before .before .before .before .before .before .before .before .mark-received-from in
-    let s = c .before .before .set-clock in
-    let went = length (mark-received-from (a .h) (a .bytes) (a .source) (a .clock) (window-of ws) .gone) in
-    lets-at (length (a .gone .now)) x ws (a .room) (k .result) e (c .before .before .before .before .before .before .before .before .before .before .before .if1 .left) refl went (p .last .1 .0) (p .ensures .1) (omega (arith, p .ensures .1)) (a .clock) refl (p .last .0) (s .last .0) (p .ensures .2) (s .ensures) (p .ensures .3) _ (p .ensures .0)
+    lets-step (is s) _ _ _ (refused (here .before)) (here .if1 .left) refl _ refl _ 256 (s .pre) (omega arith) refl _ _ _ _ _
+    (p .ensures .1, p .ensures .2, p .ensures .3) (p .ensures .0, c .before .before .set-clock .ensures)
 
 pub mark-received-from-spec : {M : Type 1} → statement M
-mark-received-from-spec = tie.close (tie.spec source-ok-requires body-refused-by-requires same-length returns mark-received-from-requires set-clock-requires same-length-2 same-length-3 returns-2)
+mark-received-from-spec =
+    tie.close
+    (tie.spec (λ c κs. search needs) (λ c κs. search needs) (λ c. refl) returns mark-received-from-requires set-clock-requires (λ c. search needs) (λ c. search needs) returns-2)

@@ -1,15 +1,14 @@
 -- `request_calls::listed_once` meets its contract. Assumes nothing.
-use mathlib.Core.Path.{_≡_, refl, sym, _∙_}
-use Prim.Native.Nat.{ℕ, _*_, _+_, _<_, _-_}
+use mathlib.Core.Path.{_≡_, refl}
+use Prim.Native.Nat.{_+_, _-_}
 use native.Mathlib.Omega.{arith}
-use lib.ListN.{length, drop}
+use lib.ListN.{drop}
 use Rattle.model.specs.Calls.{asks-in}
-use Rattle.requests.specs.Asks.{hash-in, asks-length, asks-within}
-use mathlib.Core.Bool.{true, false}
 use Rattle.model.specs.Refusals.{listed-once}
 use Rattle.model.specs.declared.Hash.{Hash}
 use Rattle.request_calls.specs.Listed.{listed, seen, once-not, once-more, once-all}
 use borrow.Author.Needs.{needs}
+use Rattle.request_calls.proofs.Asked.{AskAt, ask-there, ask-none}
 use Rattle.request_calls.proofs.listed_once.Statement.{statement}
 use Rattle.request_calls.proofs.listed_once.Tie as tie
 
@@ -25,21 +24,15 @@ asked-requires c κs = search needs
 loop-holds : tie.Need-loop-holds Inv-loop μ-loop
 loop-holds c = refl
 
+-- in a turn an ask is at i
+turn : (c : tie.In-loop Inv-loop μ-loop) → AskAt (c .before .before .before .before .before .args .hashes .now) (c .before .before .before .before .before .args .heights .now) (c .before .loop .i)
+turn c = ask-there _ _ _ _ (c .before .before .asked .ensures) (c .loop-test .taken)
+
 mul-hash-in : tie.Need-mul-hash-in Inv-loop μ-loop
-mul-hash-in c =
-    let a = c .before .before .before .before .before .args in
-    let hs = a .hashes .now in
-    let ts = a .heights .now in
-    let n : c .before .before .asked .result ≡ length (asks-in hs ts) = c .before .before .asked .ensures ∙ sym (asks-length hs ts) in
-    omega (arith, asks-within hs ts, n, c .loop-test .taken, c .before .before .before .before .before .good)
+mul-hash-in c = omega (arith, turn c .1, c .before .before .before .before .before .good)
 
 hash-in-requires : tie.Need-hash-in-requires Inv-loop μ-loop
-hash-in-requires c κs =
-    let a = c .before .before .before .before .before .args in
-    let hs = a .hashes .now in
-    let ts = a .heights .now in
-    let n : c .before .before .asked .result ≡ length (asks-in hs ts) = c .before .before .asked .ensures ∙ sym (asks-length hs ts) in
-    omega (arith, asks-within hs ts, n, c .loop-test .taken)
+hash-in-requires c κs = turn c .1
 
 add-listed-from : tie.Need-add-listed-from Inv-loop μ-loop
 add-listed-from c = omega (arith, c .before .loop-test .taken)
@@ -49,13 +42,10 @@ listed-from-requires c κs = search needs
 
 returns : tie.Need-returns Inv-loop μ-loop
 returns c =
-    let a = c .before .before .before .before .before .before .before .before .args in
-    let hs = a .hashes .now in
-    let ts = a .heights .now in
-    let n : c .before .before .before .before .before .asked .result ≡ length (asks-in hs ts) = c .before .before .before .before .before .asked .ensures ∙ sym (asks-length hs ts) in
-    let l = c .before .before .before .before .loop in
-    let within : l .i < length (asks-in hs ts) = omega (arith, n, c .before .before .before .loop-test .taken) in
-    once-not hs ts (l .i) (l .inv) within (seen (λ (x : Hash). listed x (drop (l .i + 1) (asks-in hs ts))) (c .before .before .hash-in .result) (hash-in hs (4 * l .i)) (c .before .listed-from .result) true (c .before .before .hash-in .ensures) (c .before .listed-from .ensures) (c .if1 .taken))
+    let t = c .before .before .before in
+    let a = t .before .before .before .before .before .args in
+    once-not (a .hashes .now) (a .heights .now) _ (t .before .loop .inv) (turn t .0)
+    (seen (λ (x : Hash). listed x (drop (t .before .loop .i + 1) (asks-in (a .hashes .now) (a .heights .now)))) _ _ _ _ (c .before .before .hash-in .ensures) (c .before .listed-from .ensures) (c .if1 .taken))
 
 add-i : tie.Need-add-i Inv-loop μ-loop
 add-i c = omega (arith, c .before .before .before .loop-test .taken)
@@ -65,22 +55,15 @@ loop-less c = omega (arith, c .before .before .before .loop-test .taken)
 
 loop-again : tie.Need-loop-again Inv-loop μ-loop
 loop-again c =
-    let a = c .before .before .before .before .before .before .before .before .args in
-    let hs = a .hashes .now in
-    let ts = a .heights .now in
-    let n : c .before .before .before .before .before .asked .result ≡ length (asks-in hs ts) = c .before .before .before .before .before .asked .ensures ∙ sym (asks-length hs ts) in
-    let l = c .before .before .before .before .loop in
-    let within : l .i < length (asks-in hs ts) = omega (arith, n, c .before .before .before .loop-test .taken) in
-    once-more hs ts (l .i) (l .inv) within (seen (λ (x : Hash). listed x (drop (l .i + 1) (asks-in hs ts))) (c .before .before .hash-in .result) (hash-in hs (4 * l .i)) (c .before .listed-from .result) false (c .before .before .hash-in .ensures) (c .before .listed-from .ensures) (c .if1 .left))
+    let t = c .before .before .before in
+    let a = t .before .before .before .before .before .args in
+    once-more (a .hashes .now) (a .heights .now) _ (t .before .loop .inv) (turn t .0)
+    (seen (λ (x : Hash). listed x (drop (t .before .loop .i + 1) (asks-in (a .hashes .now) (a .heights .now)))) _ _ _ _ (c .before .before .hash-in .ensures) (c .before .listed-from .ensures) (c .if1 .left))
 
 returns-2 : tie.Need-returns-2 Inv-loop μ-loop
 returns-2 c =
     let a = c .before .before .before .before .before .args in
-    let hs = a .hashes .now in
-    let ts = a .heights .now in
-    let n : c .before .before .asked .result ≡ length (asks-in hs ts) = c .before .before .asked .ensures ∙ sym (asks-length hs ts) in
-    let l = c .before .loop in
-    once-all hs ts (l .i) (l .inv) (omega (arith, n, c .loop-test .left))
+    once-all (a .hashes .now) (a .heights .now) _ (c .before .loop .inv) (ask-none _ _ _ _ (c .before .before .asked .ensures) (c .loop-test .left))
 
 pub listed-once-spec : {M : Type 1} → statement M
 listed-once-spec =

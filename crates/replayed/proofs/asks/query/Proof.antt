@@ -10,64 +10,44 @@ use Rattle.replayed.proofs.asks.query.Tie as tie
 
 returns : tie.Need-returns
 returns c =
-    let start = c .before .before .before .before in
-    let at-if1 = c .before .before .if1 in
-    let at-number = c .before .number in
-    row-as _ _ _ (is-number (start .args .a) (start .args .kind) (at-if1 .taken)) _
-    (c .number2 .ensures ∙ ap (λ (y : Answer). number-row (number-flat y)) (at-number .ensures))
+    let at = c .before .before in
+    let a = at .before .before .args in
+    row-as _ _ _ (is-number (a .a) (a .kind) (at .if1 .taken)) _
+    (c .number2 .ensures ∙ ap (λ (y : Answer). number-row (number-flat y)) (c .before .number .ensures))
 
 returns-2 : tie.Need-returns-2
 returns-2 c =
-    let start = c .before .before .before .before .before in
-    let at-if1 = c .before .before .before .if1 in
-    let at-if2 = c .before .before .if2 in
-    let at-truth = c .before .truth in
-    row-as _ _ _ (is-truth (start .args .a) (start .args .kind) (at-if1 .left) (at-if2 .taken)) _
-    (c .truth2 .ensures ∙ ap (λ (y : Answer). number-row (number-flat y)) (at-truth .ensures))
+    let at = c .before .before in
+    let a = at .before .before .before .args in
+    row-as _ _ _ (is-truth (a .a) (a .kind) (at .before .if1 .left) (at .if2 .taken)) _
+    (c .truth2 .ensures ∙ ap (λ (y : Answer). number-row (number-flat y)) (c .before .truth .ensures))
 
 returns-3 : tie.Need-returns-3
 returns-3 c =
-    let start = c .before .before .before .before .before .before in
-    let at-if1 = c .before .before .before .before .if1 in
-    let at-if2 = c .before .before .before .if2 in
-    let at-if3 = c .before .before .if3 in
-    let at-pair = c .before .pair in
-    row-as _ _ _ (is-pair (start .args .a) (start .args .kind) (at-if1 .left) (at-if2 .left) (at-if3 .taken)) _
-    (c .pair2 .ensures ∙ ap (λ (y : Answer). pair-row (pair-flat y)) (at-pair .ensures))
+    let at = c .before .before in
+    let a = at .before .before .before .before .args in
+    row-as _ _ _ (is-pair (a .a) (a .kind) (at .before .before .if1 .left) (at .before .if2 .left) (at .if3 .taken)) _
+    (c .pair2 .ensures ∙ ap (λ (y : Answer). pair-row (pair-flat y)) (c .before .pair .ensures))
 
 returns-4 : tie.Need-returns-4
 returns-4 c =
-    let start = c .before .before .before .before .before .before .before in
-    let at-if1 = c .before .before .before .before .before .if1 in
-    let at-if2 = c .before .before .before .before .if2 in
-    let at-if3 = c .before .before .before .if3 in
-    let at-if4 = c .before .before .if4 in
-    let at-perhaps-pair = c .before .perhaps-pair in
-    row-as _ _ _ (is-perhaps-pair (start .args .a) (start .args .kind) (at-if1 .left) (at-if2 .left) (at-if3 .left) (at-if4 .taken)) _
-    (c .perhaps-pair2 .ensures ∙ ap (λ (y : Answer). perhaps-pair-row (perhaps-pair-flat y)) (at-perhaps-pair .ensures))
+    let at = c .before .before in
+    let a = at .before .before .before .before .before .args in
+    row-as _ _ _ (is-perhaps-pair (a .a) (a .kind) (at .before .before .before .if1 .left) (at .before .before .if2 .left) (at .before .if3 .left) (at .if4 .taken)) _
+    (c .perhaps-pair2 .ensures ∙ ap (λ (y : Answer). perhaps-pair-row (perhaps-pair-flat y)) (c .before .perhaps-pair .ensures))
 
 returns-5 : tie.Need-returns-5
 returns-5 c =
-    let start = c .before .before .before .before .before .before .before .before in
-    let at-if1 = c .before .before .before .before .before .before .if1 in
-    let at-if2 = c .before .before .before .before .before .if2 in
-    let at-if3 = c .before .before .before .before .if3 in
-    let at-if4 = c .before .before .before .if4 in
-    let at-if5 = c .before .before .if5 in
-    let at-perhaps = c .before .perhaps in
-    row-as _ _ _ (is-perhaps (start .args .a) (start .args .kind) (at-if1 .left) (at-if2 .left) (at-if3 .left) (at-if4 .left) (at-if5 .taken)) _
-    (c .perhaps2 .ensures ∙ ap (λ (y : Answer). perhaps-row (perhaps-flat y)) (at-perhaps .ensures))
+    let at = c .before .before in
+    let a = at .before .before .before .before .before .before .args in
+    row-as _ _ _ (is-perhaps (a .a) (a .kind) (at .before .before .before .before .if1 .left) (at .before .before .before .if2 .left) (at .before .before .if3 .left) (at .before .if4 .left) (at .if5 .taken)) _
+    (c .perhaps2 .ensures ∙ ap (λ (y : Answer). perhaps-row (perhaps-flat y)) (c .before .perhaps .ensures))
 
 returns-6 : tie.Need-returns-6
 returns-6 c =
-    let start = c .before .before .before .before .before .before .before in
-    let at-if1 = c .before .before .before .before .before .if1 in
-    let at-if2 = c .before .before .before .before .if2 in
-    let at-if3 = c .before .before .before .if3 in
-    let at-if4 = c .before .before .if4 in
-    let at-if5 = c .before .if5 in
-    row-as _ _ _ (is-plan (start .args .a) (start .args .kind) (at-if1 .left) (at-if2 .left) (at-if3 .left) (at-if4 .left) (at-if5 .left)) _
-    (c .plan .ensures)
+    let at = c .before in
+    let a = at .before .before .before .before .before .before .args in
+    row-as _ _ _ (is-plan (a .a) (a .kind) (at .before .before .before .before .if1 .left) (at .before .before .before .if2 .left) (at .before .before .if3 .left) (at .before .if4 .left) (at .if5 .left)) _ (c .plan .ensures)
 
 pub query-spec : {M : Type 1} → statement M
 query-spec =
