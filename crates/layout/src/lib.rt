@@ -6,6 +6,7 @@ ghost use Prim.Native.Nat.{_+_, _<_, _≤_};
 ghost use lib.ListN.{length};
 ghost use Rattle.model.specs.Pace.{pace};
 ghost use Rattle.model.specs.Layout.{decode, word, hash-at, settings-of, source-of, settings-words, flag-word, source-word};
+ghost use Rattle.model.specs.Places.{head-max-pending-blocks, head-fanout-eligible, head-front-mean, head-front-advance, head-stall-timeout, head-preferred, head-attempted};
 ghost use Rattle.laws.specs.Tables.{with-words};
 ghost use Rattle.layout.specs.Head.{fanout-of, fanout-list, pace-list};
 use model::Fanout;
@@ -101,7 +102,7 @@ fn settings_list(b: Settings) -> [u64; sizes::SETTINGS_WORDS]
 
 pub fn store_settings(words: &mut [u64], b: Settings)
     requires { ⌜ length (now words) ≡ 4096 ⌝ }
-    ensures { λ _. ⌜ decode (now (words .exit)) ≡ with-words 8 (settings-words b) (decode (now (words .entry))) ⌝ }
+    ensures { λ _. ⌜ decode (now (words .exit)) ≡ with-words head-max-pending-blocks (settings-words b) (decode (now (words .entry))) ⌝ }
 {
     let l = settings_list(b);
     store_at(words, head::MAX_PENDING_BLOCKS, &l);
@@ -130,7 +131,7 @@ fn flag_word(b: bool) -> u64
 
 pub fn store_fanout(words: &mut [u64], f: Fanout)
     requires { ⌜ length (now words) ≡ 4096 ⌝ }
-    ensures { λ _. ⌜ decode (now (words .exit)) ≡ with-words 20 (fanout-list f) (decode (now (words .entry))) ⌝ }
+    ensures { λ _. ⌜ decode (now (words .exit)) ≡ with-words head-fanout-eligible (fanout-list f) (decode (now (words .entry))) ⌝ }
 {
     let b = flag_word(f.engaged);
     let l = [f.eligible, b];
@@ -139,7 +140,7 @@ pub fn store_fanout(words: &mut [u64], f: Fanout)
 
 pub fn load_pace(words: &[u64]) -> Pace
     requires { ⌜ length (now words) ≡ 4096 ⌝ }
-    ensures { λ r. ⌜ r ≡ pace (word 22 (decode (now (words .entry)))) (word 23 (decode (now (words .entry)))) (word 24 (decode (now (words .entry)))) ⌝ }
+    ensures { λ r. ⌜ r ≡ pace (word head-front-mean (decode (now (words .entry)))) (word head-front-advance (decode (now (words .entry)))) (word head-stall-timeout (decode (now (words .entry)))) ⌝ }
 {
     Pace {
         mean: words[at::FRONT_MEAN],
@@ -150,7 +151,7 @@ pub fn load_pace(words: &[u64]) -> Pace
 
 pub fn store_pace(words: &mut [u64], p: Pace)
     requires { ⌜ length (now words) ≡ 4096 ⌝ }
-    ensures { λ _. ⌜ decode (now (words .exit)) ≡ with-words 22 (pace-list p) (decode (now (words .entry))) ⌝ }
+    ensures { λ _. ⌜ decode (now (words .exit)) ≡ with-words head-front-mean (pace-list p) (decode (now (words .entry))) ⌝ }
 {
     let l = [p.mean, p.advance, p.wait];
     store_at(words, head::FRONT_MEAN, &l);
@@ -181,7 +182,7 @@ fn source_word(s: Source) -> u64
 
 pub fn load_preferred(words: &[u64]) -> Source
     requires { ⌜ length (now words) ≡ 4096 ⌝ }
-    ensures { λ r. ⌜ r ≡ source-of (word 25 (decode (now (words .entry)))) ⌝ }
+    ensures { λ r. ⌜ r ≡ source-of (word head-preferred (decode (now (words .entry)))) ⌝ }
 {
     let s = word_of(words, head::PREFERRED);
     source_of(s)
@@ -189,7 +190,7 @@ pub fn load_preferred(words: &[u64]) -> Source
 
 pub fn store_preferred(words: &mut [u64], s: Source)
     requires { ⌜ (length (now words) ≡ 4096) × (source-word s ≤ 256) ⌝ }
-    ensures { λ _. ⌜ decode (now (words .exit)) ≡ with-words 25 (source-word s ∷ []) (decode (now (words .entry))) ⌝ }
+    ensures { λ _. ⌜ decode (now (words .exit)) ≡ with-words head-preferred (source-word s ∷ []) (decode (now (words .entry))) ⌝ }
 {
     let v = source_word(s);
     set_word(words, head::PREFERRED, v);
@@ -197,7 +198,7 @@ pub fn store_preferred(words: &mut [u64], s: Source)
 
 pub fn load_attempted(words: &[u64]) -> Source
     requires { ⌜ length (now words) ≡ 4096 ⌝ }
-    ensures { λ r. ⌜ r ≡ source-of (word 26 (decode (now (words .entry)))) ⌝ }
+    ensures { λ r. ⌜ r ≡ source-of (word head-attempted (decode (now (words .entry)))) ⌝ }
 {
     let s = word_of(words, head::ATTEMPTED);
     source_of(s)
@@ -205,7 +206,7 @@ pub fn load_attempted(words: &[u64]) -> Source
 
 pub fn store_attempted(words: &mut [u64], s: Source)
     requires { ⌜ (length (now words) ≡ 4096) × (source-word s ≤ 256) ⌝ }
-    ensures { λ _. ⌜ decode (now (words .exit)) ≡ with-words 26 (source-word s ∷ []) (decode (now (words .entry))) ⌝ }
+    ensures { λ _. ⌜ decode (now (words .exit)) ≡ with-words head-attempted (source-word s ∷ []) (decode (now (words .entry))) ⌝ }
 {
     let v = source_word(s);
     set_word(words, head::ATTEMPTED, v);

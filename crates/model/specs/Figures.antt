@@ -102,6 +102,7 @@ figures =
     ∷ (hashes-of (prefix-probe-plan (with-row 4 524288)) is 4)
     ∷ (hashes-of (prefix-probe-plan (with-row 5 524288)) is 4)
     ∷ (hashes-of (prefix-probe-plan (with-row 4 524289)) is 0)
+    ∷ (mean-after 0 (milliseconds 49) is 0)
     ∷ (mean-after 0 (milliseconds 50 - 1) is 0)
     ∷ (mean-after 0 (milliseconds 50) is suc 50)
     ∷ (mean-after (suc 1000) (milliseconds 1400) is suc 1100)

@@ -2,6 +2,7 @@
 ghost use mathlib.Core.Path.{_≡_};
 ghost use lib.ListN.{length};
 ghost use Rattle.model.specs.Layout.{decode};
+ghost use Rattle.model.specs.Places.{head-probe-hashes};
 ghost use Rattle.laws.specs.Tables.{with-words};
 ghost use Rattle.plans.specs.Rows.{rows-words, words-from};
 use model::Plan;
@@ -56,7 +57,7 @@ pub fn planned_list(hs: [[u64; 4]; 8]) -> [u64; sizes::PLANNED_WORDS]
 
 pub fn store_planned(words: &mut [u64], hs: [[u64; 4]; 8])
     requires { ⌜ length (now words) ≡ 4096 ⌝ }
-    ensures { λ _. ⌜ decode (now (words .exit)) ≡ with-words 65 (rows-words 8 hs) (decode (now (words .entry))) ⌝ }
+    ensures { λ _. ⌜ decode (now (words .exit)) ≡ with-words head-probe-hashes (rows-words 8 hs) (decode (now (words .entry))) ⌝ }
 {
     let l = planned_list(hs);
     layout::store_at(words, head::PROBE_HASHES, &l);

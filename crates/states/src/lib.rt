@@ -3,6 +3,7 @@
 ghost use mathlib.Core.Path.{_≡_};
 ghost use lib.ListN.{length};
 ghost use Rattle.model.specs.Layout.{decode, word, hash-at, stall-of, stuck-of, cold-of, observation-of, probe-of, stall-words, stuck-words, cold-words, observation-words, probe-words};
+ghost use Rattle.model.specs.Places.{head-stall, head-stall-owner, head-stall-hash, head-stuck, head-stuck-height, head-stuck-hash, head-cold, head-cold-owner, head-cold-other, head-cold-hash, head-observation, head-observation-owner, head-observation-hash, head-probe, head-probe-owner, head-probe-accepted};
 ghost use Rattle.laws.specs.Tables.{with-words};
 ghost use Rattle.states.specs.Fits.{stall-fits, stuck-fits, cold-fits, probe-fits};
 use model::ColdFront;
@@ -28,7 +29,7 @@ fn stall_of(since: u64, owner: u64, h: Hash) -> Stall
 
 pub fn load_stall(words: &[u64]) -> Stall
     requires { ⌜ length (now words) ≡ 4096 ⌝ }
-    ensures { λ r. ⌜ r ≡ stall-of (word 27 (decode (now (words .entry)))) (word 28 (decode (now (words .entry)))) (hash-at 29 (decode (now (words .entry)))) ⌝ }
+    ensures { λ r. ⌜ r ≡ stall-of (word head-stall (decode (now (words .entry)))) (word head-stall-owner (decode (now (words .entry)))) (hash-at head-stall-hash (decode (now (words .entry)))) ⌝ }
 {
     let since = layout::word_of(words, head::STALL);
     let owner = layout::word_of(words, head::STALL_OWNER);
@@ -49,7 +50,7 @@ fn stall_list(s: Stall) -> [u64; sizes::STALL_WORDS]
 
 pub fn store_stall(words: &mut [u64], s: Stall)
     requires { ⌜ (length (now words) ≡ 4096) × stall-fits s ⌝ }
-    ensures { λ _. ⌜ decode (now (words .exit)) ≡ with-words 27 (stall-words s) (decode (now (words .entry))) ⌝ }
+    ensures { λ _. ⌜ decode (now (words .exit)) ≡ with-words head-stall (stall-words s) (decode (now (words .entry))) ⌝ }
 {
     let l = stall_list(s);
     layout::store_at(words, head::STALL, &l);
@@ -69,7 +70,7 @@ fn stuck_of(since: u64, height: u64, h: Hash) -> Stuck
 
 pub fn load_stuck(words: &[u64]) -> Stuck
     requires { ⌜ length (now words) ≡ 4096 ⌝ }
-    ensures { λ r. ⌜ r ≡ stuck-of (word 33 (decode (now (words .entry)))) (word 34 (decode (now (words .entry)))) (hash-at 35 (decode (now (words .entry)))) ⌝ }
+    ensures { λ r. ⌜ r ≡ stuck-of (word head-stuck (decode (now (words .entry)))) (word head-stuck-height (decode (now (words .entry)))) (hash-at head-stuck-hash (decode (now (words .entry)))) ⌝ }
 {
     let since = layout::word_of(words, head::STUCK);
     let height = layout::word_of(words, head::STUCK_HEIGHT);
@@ -90,7 +91,7 @@ fn stuck_list(s: Stuck) -> [u64; sizes::STUCK_WORDS]
 
 pub fn store_stuck(words: &mut [u64], s: Stuck)
     requires { ⌜ (length (now words) ≡ 4096) × stuck-fits s ⌝ }
-    ensures { λ _. ⌜ decode (now (words .exit)) ≡ with-words 33 (stuck-words s) (decode (now (words .entry))) ⌝ }
+    ensures { λ _. ⌜ decode (now (words .exit)) ≡ with-words head-stuck (stuck-words s) (decode (now (words .entry))) ⌝ }
 {
     let l = stuck_list(s);
     layout::store_at(words, head::STUCK, &l);
@@ -116,7 +117,7 @@ fn cold_of(tag: u64, owner: u64, x: u64, h: Hash) -> ColdFront
 
 pub fn load_cold(words: &[u64]) -> ColdFront
     requires { ⌜ length (now words) ≡ 4096 ⌝ }
-    ensures { λ r. ⌜ r ≡ cold-of (word 39 (decode (now (words .entry)))) (word 40 (decode (now (words .entry)))) (word 41 (decode (now (words .entry)))) (hash-at 42 (decode (now (words .entry)))) ⌝ }
+    ensures { λ r. ⌜ r ≡ cold-of (word head-cold (decode (now (words .entry)))) (word head-cold-owner (decode (now (words .entry)))) (word head-cold-other (decode (now (words .entry)))) (hash-at head-cold-hash (decode (now (words .entry)))) ⌝ }
 {
     let tag = layout::word_of(words, head::COLD);
     let owner = layout::word_of(words, head::COLD_OWNER);
@@ -139,7 +140,7 @@ fn cold_list(s: ColdFront) -> [u64; sizes::COLD_WORDS]
 
 pub fn store_cold(words: &mut [u64], s: ColdFront)
     requires { ⌜ (length (now words) ≡ 4096) × cold-fits s ⌝ }
-    ensures { λ _. ⌜ decode (now (words .exit)) ≡ with-words 39 (cold-words s) (decode (now (words .entry))) ⌝ }
+    ensures { λ _. ⌜ decode (now (words .exit)) ≡ with-words head-cold (cold-words s) (decode (now (words .entry))) ⌝ }
 {
     let l = cold_list(s);
     layout::store_at(words, head::COLD, &l);
@@ -162,7 +163,7 @@ fn observation_of(tag: u64, owner: u64, h: Hash) -> Observation
 
 pub fn load_observation(words: &[u64]) -> Observation
     requires { ⌜ length (now words) ≡ 4096 ⌝ }
-    ensures { λ r. ⌜ r ≡ observation-of (word 55 (decode (now (words .entry)))) (word 56 (decode (now (words .entry)))) (hash-at 57 (decode (now (words .entry)))) ⌝ }
+    ensures { λ r. ⌜ r ≡ observation-of (word head-observation (decode (now (words .entry)))) (word head-observation-owner (decode (now (words .entry)))) (hash-at head-observation-hash (decode (now (words .entry)))) ⌝ }
 {
     let tag = layout::word_of(words, head::OBSERVATION);
     let owner = layout::word_of(words, head::OBSERVATION_OWNER);
@@ -183,7 +184,7 @@ fn observation_list(s: Observation) -> [u64; sizes::OBSERVATION_WORDS]
 
 pub fn store_observation(words: &mut [u64], s: Observation)
     requires { ⌜ length (now words) ≡ 4096 ⌝ }
-    ensures { λ _. ⌜ decode (now (words .exit)) ≡ with-words 55 (observation-words s) (decode (now (words .entry))) ⌝ }
+    ensures { λ _. ⌜ decode (now (words .exit)) ≡ with-words head-observation (observation-words s) (decode (now (words .entry))) ⌝ }
 {
     let l = observation_list(s);
     layout::store_at(words, head::OBSERVATION, &l);
@@ -203,7 +204,7 @@ fn probe_of(started: u64, owner: u64, accepted: u64) -> Probe
 
 pub fn load_probe(words: &[u64]) -> Probe
     requires { ⌜ length (now words) ≡ 4096 ⌝ }
-    ensures { λ r. ⌜ r ≡ probe-of (word 61 (decode (now (words .entry)))) (word 62 (decode (now (words .entry)))) (word 64 (decode (now (words .entry)))) ⌝ }
+    ensures { λ r. ⌜ r ≡ probe-of (word head-probe (decode (now (words .entry)))) (word head-probe-owner (decode (now (words .entry)))) (word head-probe-accepted (decode (now (words .entry)))) ⌝ }
 {
     let started = layout::word_of(words, head::PROBE);
     let owner = layout::word_of(words, head::PROBE_OWNER);
@@ -225,7 +226,7 @@ fn probe_list(p: Probe, n: u64) -> [u64; 4]
 // A probe and the number of its hashes.
 pub fn store_probe(words: &mut [u64], p: Probe, n: u64)
     requires { ⌜ (length (now words) ≡ 4096) × probe-fits p ⌝ }
-    ensures { λ _. ⌜ decode (now (words .exit)) ≡ with-words 61 (probe-words p n) (decode (now (words .entry))) ⌝ }
+    ensures { λ _. ⌜ decode (now (words .exit)) ≡ with-words head-probe (probe-words p n) (decode (now (words .entry))) ⌝ }
 {
     let l = probe_list(p, n);
     layout::store_at(words, head::PROBE, &l);
