@@ -49,7 +49,7 @@
  *   seat     0 to 255: the host's number for a connection. Key: 0 to 255, one for each seat, for the address behind it; cooling goes by key.
  *   clock    nanoseconds from any start that the host chooses, at most 2^62, never going back between accepted calls (a query's moves nothing). Durations are nanoseconds.
  *   hash     32 bytes as four words, in the order in which they come on the wire (inv, getdata, headers): the first byte is the highest of word a, the
- *            last the lowest of word d: kofudile_hash_of. Explorers and node consoles show the bytes in reverse: the first byte on the wire is the last
+ *            last the lowest of word d: kofudile_hash_of, kofudile_hash_bytes. Explorers and node consoles show the bytes in reverse: the first byte on the wire is the last
  *            pair of digits shown. "By rising hash" is by the bytes on the wire, from the first.
  *   entry    a block asked for: hash, owner seat, time of the request, height, estimate of its bytes.
  *   frontier the height from which the host looks for blocks to request next (kofudile_request_cursor).
@@ -441,16 +441,21 @@ KOFUDILE_LIST_API static inline uint64_t kofudile_confirm_prefix_probe(uint64_t 
         alternates_len ? alternates : &no_word, alternates_len, clock);
 }
 
+/* The words of so many hashes; one hash too many says as much as any larger number, which four times might not hold. */
+static inline size_t kofudile_getdata_words(size_t count) {
+    return KOFUDILE_HASH_WORDS * (count > KOFUDILE_GETDATA_HASHES ? KOFUDILE_GETDATA_HASHES + 1 : count);
+}
+
 KOFUDILE_LISTS_API static inline kofudile_number kofudile_write_getdata(const kofudile_hash *hashes, size_t count, uint8_t *out, size_t out_len) {
     const uint64_t no_word = 0;
     uint8_t no_byte = 0;
-    return kofudile_write_getdata_words(count ? &hashes->a : &no_word, KOFUDILE_HASH_WORDS * count, out_len ? out : &no_byte, out_len);
+    return kofudile_write_getdata_words(count ? &hashes->a : &no_word, kofudile_getdata_words(count), out_len ? out : &no_byte, out_len);
 }
 
 KOFUDILE_LISTS_API static inline kofudile_number kofudile_read_getdata(const uint8_t *payload, size_t payload_len, kofudile_hash *hashes, size_t count) {
     const uint8_t no_byte = 0;
     uint64_t no_word = 0;
-    return kofudile_read_getdata_words(payload_len ? payload : &no_byte, payload_len, count ? &hashes->a : &no_word, KOFUDILE_HASH_WORDS * count);
+    return kofudile_read_getdata_words(payload_len ? payload : &no_byte, payload_len, count ? &hashes->a : &no_word, kofudile_getdata_words(count));
 }
 
 static inline uint64_t kofudile_word_of(const uint8_t *bytes) {
@@ -467,6 +472,18 @@ static inline kofudile_hash kofudile_hash_of(const uint8_t *bytes) {
     hash.c = kofudile_word_of(bytes + 16);
     hash.d = kofudile_word_of(bytes + 24);
     return hash;
+}
+
+static inline void kofudile_bytes_of(uint64_t word, uint8_t *bytes) {
+    for (int i = 7; i >= 0; i--, word >>= 8) bytes[i] = (uint8_t)(word & 255);
+}
+
+/* A hash as its 32 bytes, as they go on the wire. */
+static inline void kofudile_hash_bytes(kofudile_hash hash, uint8_t *bytes) {
+    kofudile_bytes_of(hash.a, bytes);
+    kofudile_bytes_of(hash.b, bytes + 8);
+    kofudile_bytes_of(hash.c, bytes + 16);
+    kofudile_bytes_of(hash.d, bytes + 24);
 }
 
 /* The original's budget of this name. block_spacing: the network's time between blocks, 600 * KOFUDILE_SECOND for Bitcoin. */

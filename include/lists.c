@@ -45,6 +45,10 @@ static int bytes_and_texts(void) {
     kofudile_hash hash = kofudile_hash_of(bytes);
     HOLDS(hash.a == UINT64_C(0x0102030405060708) && hash.b == UINT64_C(0x090a0b0c0d0e0f10));
     HOLDS(hash.c == UINT64_C(0x1112131415161718) && hash.d == UINT64_C(0x191a1b1c1d1e1f20));
+    uint8_t again[33];
+    memset(again, 9, sizeof again);
+    kofudile_hash_bytes(hash, again);
+    HOLDS(memcmp(again, bytes, sizeof bytes) == 0 && again[32] == 9);
     for (uint64_t i = 0; i <= KOFUDILE_REFUSED_PAYLOAD; i++)
         for (uint64_t j = i + 1; j <= KOFUDILE_REFUSED_PAYLOAD + 1; j++) HOLDS(strcmp(kofudile_refusal_text(i), kofudile_refusal_text(j)) != 0);
     HOLDS(strcmp(kofudile_refusal_text(KOFUDILE_REFUSED_PAYLOAD + 1), kofudile_refusal_text(UINT64_MAX)) == 0);
@@ -85,6 +89,7 @@ static int counts(void) {
     HOLDS(memcmp(named, listed, sizeof named) == 0);
     HOLDS(kofudile_read_getdata(payload, KOFUDILE_GETDATA_BYTES + 1, named, 0).refused == KOFUDILE_REFUSED_PAYLOAD);
     HOLDS(kofudile_write_getdata(listed, 257, NULL, 0).refused == KOFUDILE_REFUSED_TOO_MANY);
+    HOLDS(kofudile_write_getdata(listed, SIZE_MAX / KOFUDILE_HASH_WORDS + 1, payload, sizeof payload).refused == KOFUDILE_REFUSED_TOO_MANY);
     return 0;
 }
 

@@ -1,8 +1,8 @@
 use crate::ffi;
 use crate::types::{Hash256, Refusal, Result};
 
-/// Hashes in one payload, at most.
-const MOST: usize = 256;
+/// Hashes in one payload, at most: a longer list is sent as several, `hashes.chunks(GETDATA_HASHES)`.
+pub const GETDATA_HASHES: usize = 256;
 const HASH_WORDS: usize = 4;
 /// The count takes no more than this.
 const COUNT_BYTES: usize = 3;
@@ -25,7 +25,7 @@ const ENTRY_BYTES: usize = 36;
 /// ```
 ///
 /// # Errors
-/// [`Refusal::TooMany`]: more than 256 hashes
+/// [`Refusal::TooMany`]: more than [`GETDATA_HASHES`]
 pub fn write_getdata(hashes: &[Hash256]) -> Result<Vec<u8>> {
     written(hashes.iter())
 }
@@ -49,7 +49,7 @@ pub fn write_getdata(hashes: &[Hash256]) -> Result<Vec<u8>> {
 /// ```
 ///
 /// # Errors
-/// [`Refusal::TooMany`]: more than 256 entries
+/// [`Refusal::TooMany`]: more than [`GETDATA_HASHES`]
 pub fn write_request(entries: &[(Hash256, u32)]) -> Result<Vec<u8>> {
     written(entries.iter().map(|(hash, _)| hash))
 }
@@ -72,7 +72,7 @@ pub fn write_request(entries: &[(Hash256, u32)]) -> Result<Vec<u8>> {
 /// [`Refusal::Payload`]
 pub fn read_getdata(payload: &[u8]) -> Result<Vec<Hash256>> {
     // An accepted payload has ENTRY_BYTES for each of its hashes, so this is room for all of them, and little of a short one.
-    let mut words = vec![0; HASH_WORDS * MOST.min(payload.len() / ENTRY_BYTES)];
+    let mut words = vec![0; HASH_WORDS * GETDATA_HASHES.min(payload.len() / ENTRY_BYTES)];
     // SAFETY: both are lent for this call alone, and `words` is ours and apart from the payload.
     let said = unsafe { ffi::kofudile_read_getdata_words(payload.as_ptr(), payload.len(), words.as_mut_ptr(), words.len()) };
     let hash = |words: &[u64]| Hash256::of(ffi::Hash([words[0], words[1], words[2], words[3]]));
@@ -81,7 +81,7 @@ pub fn read_getdata(payload: &[u8]) -> Result<Vec<Hash256>> {
 
 /// One more than the most is enough for the refusal, whatever the list's length.
 fn written<'a>(hashes: impl Iterator<Item = &'a Hash256>) -> Result<Vec<u8>> {
-    let words: Vec<u64> = hashes.take(MOST + 1).flat_map(|hash| hash.words()).collect();
+    let words: Vec<u64> = hashes.take(GETDATA_HASHES + 1).flat_map(|hash| hash.words()).collect();
     let mut out = vec![0; COUNT_BYTES + ENTRY_BYTES * (words.len() / HASH_WORDS)];
     // SAFETY: both are ours, apart, and lent for this call alone.
     let said = unsafe { ffi::kofudile_write_getdata_words(words.as_ptr(), words.len(), out.as_mut_ptr(), out.len()) };

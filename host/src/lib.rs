@@ -33,7 +33,7 @@ mod queries;
 mod types;
 
 pub use calls::DownloadWindow;
-pub use getdata::{read_getdata, write_getdata, write_request};
+pub use getdata::{GETDATA_HASHES, read_getdata, write_getdata, write_request};
 pub use types::{
     BlameReason, BlockedContext, BlockedDecision, Entry, Hash256, Headroom, OwnedFetch, PrefixProbePlan, Reason, Refusal,
     RejectDelivery, Release, Result, Seat, Staged, SyncBudget, default_sync_budget, fast_sync_budget,

@@ -2,7 +2,7 @@
 
 use kofudile::{Hash256, Refusal, ffi, read_getdata, write_getdata, write_request};
 
-/// No two alike, and every byte of a hash differs from the next.
+/// The first 256 are all different, and every byte of a hash differs from the next.
 fn hashes(count: usize) -> Vec<Hash256> {
     (0..count).map(|i| Hash256(std::array::from_fn(|byte| (i * 7 + byte * 37 + i / 256) as u8))).collect()
 }

@@ -1,5 +1,5 @@
 //! getdata's payload, written and read: ours beside plain Rust, once with a vector that is kept, as one would write it first, and once into a lent slice, as
-//! ours does it. All check the same.
+//! ours does it. All refuse the same lists and payloads; with a vector no output is too short.
 
 use crate::rows::Random;
 use crate::ticks::{Timer, median, timed};

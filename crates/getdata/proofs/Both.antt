@@ -32,5 +32,5 @@ pub room : (i x : ℕ) → i < 8 → x < 256 ^ i → x < 72057594037927936
 room i x h e = omega (arith, e, pow-le-pow-right {n = 256} (omega arith) {i = i} {j = 7} (omega arith))
 
 -- and with it is of one byte more
-pub grown : (i x b : ℕ) → x < 256 ^ i → b < 256 → x * 256 + b < 256 ^ suc i
-grown i x b e h = rw pow-suc (omega arith)
+pub one-more : (i x b : ℕ) → x < 256 ^ i → b < 256 → x * 256 + b < 256 ^ suc i
+one-more i x b e h = rw pow-suc (omega arith)

@@ -10,10 +10,10 @@ use lib.Seq.{take-all, drop-cons, drop-drop}
 use borrow.Author.Tests.{eq-eqb, ne-eqb, lt-ltb, le-ltb, le-leb, lt-leb, not-true, not-false}
 use Rattle.model.specs.Hash.{hash-words, hashes-words}
 use Rattle.model.specs.Perform.{refused, says}
-use Rattle.model.specs.Getdata.{in-two, count-width, count-of, shortest, type-of, msg-witness-block, spells, word-at, entry-hash, all-blocks, entry-hashes}
+use Rattle.model.specs.Getdata.{from-little-endian, from-big-endian, in-two, count-width, count-of, shortest, type-of, msg-witness-block, word-at, entry-hash, all-blocks, entry-hashes}
 use Rattle.model.specs.Getdata.{is-getdata, getdata-hashes, answered, put-in, read-refusal, read-answer, read-left}
 use Rattle.getdata.specs.Bytes.{length-entry-hashes}
-use Rattle.getdata.specs.Answers.{length-words}
+use Rattle.getdata.specs.Answers.{length-words, reads}
 use Rattle.getdata.proofs.Both.{put, put-front, all-of-four}
 
 -- what a test of the code, on a callee's answer, says of what the answer is
@@ -24,6 +24,13 @@ pub told-false : {b x : Bool} → b ≡ x → not b ≡ true → x ≡ false
 told-false {b} e h = sym e ∙ not-true b h
 
 -- ---- the count, by the first byte
+
+two-bytes : (p : List ℕ) → from-little-endian (take 2 (drop 1 p)) ≡ getD p 1 0 + getD p 2 0 * 256
+unfolding from-little-endian
+two-bytes [] = refl
+two-bytes (a ∷ []) = refl
+two-bytes (a ∷ b ∷ []) = refl
+two-bytes (a ∷ b ∷ c ∷ l) = omega arith
 
 module _ (p : List ℕ) (b : ℕ) (e : b ≡ getD p 0 0) where
   two : b ≡ 253 → in-two p ≡ true
@@ -44,11 +51,12 @@ module _ (p : List ℕ) (b : ℕ) (e : b ≡ getD p 0 0) where
 
   pub count-two : (low high : ℕ) → b ≡ 253 → low ≡ getD p 1 0 → high ≡ getD p 2 0 → low + high * 256 ≡ count-of p
   unfolding count-of
-  count-two low high h f g = (λ k. f k + g k * 256) ∙ sym (ap (λ (t : Bool). cond t (getD p 1 0 + getD p 2 0 * 256) (getD p 0 0)) (two h))
+  count-two low high h f g =
+      (λ k. f k + g k * 256) ∙ sym (two-bytes p) ∙ sym (ap (λ (t : Bool). cond t (from-little-endian (take 2 (drop 1 p))) (getD p 0 0)) (two h))
 
   pub count-one : (b ≡ 253 → ⊥) → b ≡ count-of p
   unfolding count-of
-  count-one h = e ∙ sym (ap (λ (t : Bool). cond t (getD p 1 0 + getD p 2 0 * 256) (getD p 0 0)) (one h))
+  count-one h = e ∙ sym (ap (λ (t : Bool). cond t (from-little-endian (take 2 (drop 1 p))) (getD p 0 0)) (one h))
 
   pub shortest-two : (n : ℕ) → b ≡ 253 → n ≡ count-of p → leb 253 n ≡ shortest p
   unfolding shortest
@@ -72,10 +80,19 @@ next-entry i es =
 
 -- ---- the types: i entries are looked at
 
+four-bytes : (e : List ℕ) → from-little-endian (take 4 e) ≡ getD e 0 0 + (getD e 1 0 + (getD e 2 0 + getD e 3 0 * 256) * 256) * 256
+unfolding from-little-endian
+four-bytes [] = refl
+four-bytes (a ∷ []) = refl
+four-bytes (a ∷ b ∷ []) = refl
+four-bytes (a ∷ b ∷ c ∷ []) = refl
+four-bytes (a ∷ b ∷ c ∷ d ∷ l) = omega arith
+
 pub type-is : (e : List ℕ) (a b c d : ℕ) → a ≡ getD e 0 0 → b ≡ getD e 1 0 → c ≡ getD e 2 0 → d ≡ getD e 3 0
-    → eqb (a + b * 256 + c * 65536 + d * 16777216) 1073741826 ≡ eqb (type-of e) msg-witness-block
+    → eqb (a + (b + (c + d * 256) * 256) * 256) 1073741826 ≡ eqb (type-of e) msg-witness-block
 unfolding type-of
-type-is e a b c d f g h j = λ k. eqb (f k + g k * 256 + h k * 65536 + j k * 16777216) 1073741826
+type-is e a b c d f g h j =
+    (λ k. eqb (f k + (g k + (h k + j k * 256) * 256) * 256) 1073741826) ∙ ap (λ (t : ℕ). eqb t msg-witness-block) (sym (four-bytes e))
 
 module _ (es : List ℕ) (i n : ℕ) where
   -- those from the i-th on
@@ -112,47 +129,51 @@ blocks-end es i n h =
 
 -- ---- the payload
 
+and-false : (b : Bool) → (b && false) ≡ false
+and-false true = refl
+and-false false = refl
+
 module _ (p : List ℕ) where
   pub not-shortest : shortest p ≡ false → false ≡ is-getdata p
   unfolding is-getdata
   not-shortest e = rw e refl
 
   module _ (n : ℕ) (s : shortest p ≡ true) (c : n ≡ count-of p) where
-    pub too-many : 256 < n → false ≡ is-getdata p
+    pub above-256 : 256 < n → false ≡ is-getdata p
     unfolding is-getdata
-    too-many h = rw (s, lt-leb (count-of p) 256 (omega (arith, c, h))) refl
+    above-256 h = rw (s, lt-leb (count-of p) 256 (omega (arith, c, h))) refl
 
-    module _ (w : ℕ) (few : n ≤ 256) (d : w ≡ count-width p) where
+    module _ (w : ℕ) (d : w ≡ count-width p) where
       pub not-long : (length p ≡ w + n * 36 → ⊥) → false ≡ is-getdata p
       unfolding is-getdata
       not-long h =
           let no : eqb (length p) (count-width p + count-of p * 36) ≡ false = ne-eqb _ _ (λ (e : length p ≡ count-width p + count-of p * 36). h (omega (arith, c, d, e))) in
-          rw (s, le-leb (count-of p) 256 (omega (arith, c, few)), no) refl
+          rw (s, no) (sym (and-false (leb (count-of p) 256)))
 
-      pub long : (b : Bool) (es : List ℕ) → length p ≡ w + n * 36 → es ≡ drop w p → b ≡ all-blocks n es → b ≡ is-getdata p
+      pub long : (b : Bool) (es : List ℕ) → n ≤ 256 → length p ≡ w + n * 36 → es ≡ drop w p → b ≡ all-blocks n es → b ≡ is-getdata p
       unfolding is-getdata
-      long b es h f e =
+      long b es few h f e =
           rw (s, le-leb (count-of p) 256 (omega (arith, c, few)), eq-eqb (length p) (count-width p + count-of p * 36) (omega (arith, c, d, h)))
           (e ∙ (λ k. all-blocks (c k) (f k)) ∙ ap (λ (x : ℕ). all-blocks (count-of p) (drop x p)) d)
 
 -- ---- a word: i bytes are read
 
-pub spells-on : (bs : List ℕ) (i x b : ℕ) → i < length bs → b ≡ getD bs i 0 → spells x (drop i bs) ≡ spells (x * 256 + b) (drop (i + 1) bs)
-unfolding spells
-spells-on bs i x b h e =
+pub from-next : (bs : List ℕ) (i x b : ℕ) → i < length bs → b ≡ getD bs i 0 → from-big-endian x (drop i bs) ≡ from-big-endian (x * 256 + b) (drop (i + 1) bs)
+unfolding from-big-endian
+from-next bs i x b h e =
     let next : suc i ≡ i + 1 = omega arith in
-    ap (spells x) (drop-cons bs i 0 h)
-    ∙ ap (λ (y : ℕ). spells (x * 256 + y) (drop (suc i) bs)) (sym e)
-    ∙ ap (λ (k : ℕ). spells (x * 256 + b) (drop k bs)) next
+    ap (from-big-endian x) (drop-cons bs i 0 h)
+    ∙ ap (λ (y : ℕ). from-big-endian (x * 256 + y) (drop (suc i) bs)) (sym e)
+    ∙ ap (λ (k : ℕ). from-big-endian (x * 256 + b) (drop k bs)) next
 
-pub spells-end : (bs : List ℕ) (i x : ℕ) → length bs ≤ i → spells x (drop i bs) ≡ x
-unfolding spells
-spells-end bs i x h = ap (spells x) (drop-of-length-le bs {i = i} h)
+pub from-end : (bs : List ℕ) (i x : ℕ) → length bs ≤ i → from-big-endian x (drop i bs) ≡ x
+unfolding from-big-endian
+from-end bs i x h = ap (from-big-endian x) (drop-of-length-le bs {i = i} h)
 
 -- ---- the words of a hash
 
-pub hash-is : (e l : List ℕ) (a b c d : ℕ) → length l ≡ 4 → a ≡ spells 0 (take 8 (drop 4 e)) → b ≡ spells 0 (take 8 (drop 12 e))
-    → c ≡ spells 0 (take 8 (drop 20 e)) → d ≡ spells 0 (take 8 (drop 28 e)) → set (set (set (set l 0 a) 1 b) 2 c) 3 d ≡ hash-words (entry-hash e)
+pub hash-is : (e l : List ℕ) (a b c d : ℕ) → length l ≡ 4 → a ≡ from-big-endian 0 (take 8 (drop 4 e)) → b ≡ from-big-endian 0 (take 8 (drop 12 e))
+    → c ≡ from-big-endian 0 (take 8 (drop 20 e)) → d ≡ from-big-endian 0 (take 8 (drop 28 e)) → set (set (set (set l 0 a) 1 b) 2 c) 3 d ≡ hash-words (entry-hash e)
 unfolding entry-hash word-at
 hash-is e l a b c d h i j k m = all-of-four l a b c d h ∙ (λ t. i t ∷ j t ∷ k t ∷ m t ∷ [])
 
@@ -211,19 +232,16 @@ module _ (p lent : List ℕ) where
     left-11 = sym (ap (λ (r : ℕ). put-in r (hashes-words (getdata-hashes p)) lent) r-11)
 
   module _ (n : ℕ) (e : is-getdata p ≡ true) (c : n ≡ count-of p) where
-    words-many : length (hashes-words (getdata-hashes p)) ≡ n * 4
+    hashes-many : length (getdata-hashes p) ≡ n
     unfolding getdata-hashes
-    words-many =
-        length-words (entry-hashes (count-of p) (drop (count-width p) p))
-        ∙ ap (λ (k : ℕ). k * 4) (length-entry-hashes (count-of p) (drop (count-width p) p) ∙ sym c)
+    hashes-many = length-entry-hashes (count-of p) (drop (count-width p) p) ∙ sym c
+
+    words-many : length (hashes-words (getdata-hashes p)) ≡ n * 4
+    words-many = length-words (getdata-hashes p) ∙ ap (λ (k : ℕ). k * 4) hashes-many
 
     r-10 : length lent < n * 4 → read-refusal p lent ≡ 10
     unfolding read-refusal
     r-10 h = rw (e, lt-ltb (length lent) (length (hashes-words (getdata-hashes p))) (omega (arith, h, words-many))) refl
-
-    r-0 : n * 4 ≤ length lent → read-refusal p lent ≡ 0
-    unfolding read-refusal
-    r-0 h = rw (e, le-ltb (length lent) (length (hashes-words (getdata-hashes p))) (omega (arith, h, words-many))) refl
 
     pub answer-10 : length lent < n * 4 → refused 10 ≡ read-answer p lent
     unfolding read-answer
@@ -233,19 +251,19 @@ module _ (p lent : List ℕ) where
     unfolding read-left
     left-10 h = sym (ap (λ (r : ℕ). put-in r (hashes-words (getdata-hashes p)) lent) (r-10 h))
 
-    hashes-many : length (getdata-hashes p) ≡ n
-    unfolding getdata-hashes
-    hashes-many = length-entry-hashes (count-of p) (drop (count-width p) p) ∙ sym c
+    module _ (room : n * 4 ≤ length lent) where
+      all : (read-answer p lent ≡ says 0 (length (getdata-hashes p) ∷ []))
+          × (read-left p lent ≡ hashes-words (getdata-hashes p) ++ drop (length (hashes-words (getdata-hashes p))) lent)
+      all = reads p (getdata-hashes p) lent e refl (omega (arith, hashes-many, room))
 
-    pub answer-0 : n * 4 ≤ length lent → says 0 (n ∷ []) ≡ read-answer p lent
-    unfolding read-answer
-    answer-0 h = sym (ap (λ (r : ℕ). answered r (length (getdata-hashes p))) (r-0 h) ∙ ap (λ (k : ℕ). says 0 (k ∷ [])) hashes-many)
+      pub answer-0 : says 0 (n ∷ []) ≡ read-answer p lent
+      answer-0 = sym (all .0 ∙ ap (λ (k : ℕ). says 0 (k ∷ [])) hashes-many)
 
-    pub left-0 : (w m : ℕ) (es new : List ℕ) → n * 4 ≤ length lent → w ≡ count-width p → es ≡ drop w p → m ≡ n * 4 → new ≡ hashes-words (entry-hashes n es)
-        → new ++ drop m lent ≡ read-left p lent
-    unfolding read-left getdata-hashes
-    left-0 w m es new h d f g is =
-        let here : es ≡ drop (count-width p) p = f ∙ ap (λ (k : ℕ). drop k p) d in
-        let all : new ≡ hashes-words (entry-hashes (count-of p) (drop (count-width p) p)) = is ∙ (λ k. hashes-words (entry-hashes (c k) (here k))) in
-        let end : m ≡ length (hashes-words (entry-hashes (count-of p) (drop (count-width p) p))) = g ∙ sym words-many in
-        (λ k. all k ++ drop (end k) lent) ∙ sym (ap (λ (r : ℕ). put-in r (hashes-words (entry-hashes (count-of p) (drop (count-width p) p))) lent) (r-0 h))
+      pub left-0 : (w m : ℕ) (es new : List ℕ) → w ≡ count-width p → es ≡ drop w p → m ≡ n * 4 → new ≡ hashes-words (entry-hashes n es)
+          → new ++ drop m lent ≡ read-left p lent
+      unfolding getdata-hashes
+      left-0 w m es new d f g is =
+          let here : es ≡ drop (count-width p) p = f ∙ ap (λ (k : ℕ). drop k p) d in
+          let whole : new ≡ hashes-words (entry-hashes (count-of p) (drop (count-width p) p)) = is ∙ (λ k. hashes-words (entry-hashes (c k) (here k))) in
+          let end : m ≡ length (hashes-words (getdata-hashes p)) = g ∙ sym words-many in
+          (λ k. whole k ++ drop (end k) lent) ∙ sym (all .1)

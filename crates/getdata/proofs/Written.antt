@@ -12,11 +12,11 @@ use borrow.Author.Tests.{lt-ltb, le-ltb}
 use Rattle.model.specs.declared.Hash.{Hash}
 use Rattle.model.specs.Hash.{hash, hashes-in}
 use Rattle.model.specs.Perform.{refused, says}
-use Rattle.getdata.specs.LowFirst.{low-first}
 use Rattle.getdata.specs.Bytes.{length-entry}
+use Rattle.getdata.specs.Answers.{writes}
 use Rattle.getdata.specs.Returns.{payload-length}
-use Rattle.getdata.proofs.Both.{put, put-long}
-use Rattle.model.specs.Getdata.{compact-size, spelt, entry-bytes, entries-bytes, payload, write-refusal, write-answer, write-left}
+use Rattle.getdata.proofs.Both.{put, put-long, put-front}
+use Rattle.model.specs.Getdata.{little-endian, big-endian, compact-size, entry-bytes, entries-bytes, payload, write-refusal, write-answer, write-left}
 
 -- ---- parts written one after the other
 
@@ -54,30 +54,48 @@ all-of-one [] x e = absurd (omega arith)
 all-of-one (a ∷ []) x e = refl
 all-of-one (a ∷ b ∷ l) x e = absurd (omega arith)
 
-pub all-of-three : (l : List ℕ) (x y z : ℕ) → length l ≡ 3 → set (set (set l 0 x) 1 y) 2 z ≡ x ∷ y ∷ z ∷ []
-all-of-three [] x y z e = absurd (omega arith)
-all-of-three (a ∷ []) x y z e = absurd (omega arith)
-all-of-three (a ∷ b ∷ []) x y z e = absurd (omega arith)
-all-of-three (a ∷ b ∷ c ∷ []) x y z e = refl
-all-of-three (a ∷ b ∷ c ∷ d ∷ l) x y z e = absurd (omega arith)
+-- the first of three, and a part for the others
+pub first-and-rest : (l : List ℕ) (x : ℕ) (y : List ℕ) → length l ≡ 3 → put 1 2 (set l 0 x) y ≡ x ∷ y
+first-and-rest [] x y e = absurd (omega arith)
+first-and-rest (a ∷ []) x y e = absurd (omega arith)
+first-and-rest (a ∷ b ∷ []) x y e = absurd (omega arith)
+first-and-rest (a ∷ b ∷ c ∷ []) x y e = ap (λ (r : List ℕ). x ∷ r) (append-nil y)
+first-and-rest (a ∷ b ∷ c ∷ d ∷ l) x y e = absurd (omega arith)
 
 -- ---- the bytes of a number
 
--- one byte of a word more, turned round
-pub turn-next : (n k x r : ℕ) → spelt (suc n) x ++ low-first k r ≡ spelt n (x / 256) ++ low-first (suc k) (r * 256 + x % 256)
-unfolding spelt low-first
-turn-next n k x r =
+-- the bytes of a word swapped: one more
+pub swap-next : (n k x r : ℕ) → big-endian (suc n) x ++ little-endian k r ≡ big-endian n (x / 256) ++ little-endian (suc k) (r * 256 + x % 256)
+unfolding big-endian little-endian
+swap-next n k x r =
     let low : x % 256 ≡ (r * 256 + x % 256) % 256 = omega arith in
     let high : r ≡ (r * 256 + x % 256) / 256 = omega arith in
-    append-assoc (spelt n (x / 256)) (x % 256 ∷ []) (low-first k r)
-    ∙ (λ i. spelt n (x / 256) ++ (low i ∷ low-first k (high i)))
+    append-assoc (big-endian n (x / 256)) (x % 256 ∷ []) (little-endian k r)
+    ∙ (λ i. big-endian n (x / 256) ++ (low i ∷ little-endian k (high i)))
 
--- one byte more is stored
-pub store-next : (n i x : ℕ) (l : List ℕ) → i < length l → take i l ++ low-first (suc n) x ≡ take (suc i) (set l i (x % 256)) ++ low-first n (x / 256)
-unfolding low-first
-store-next n i x l h =
-    sym (append-assoc (take i l) (x % 256 ∷ []) (low-first n (x / 256)))
-    ∙ ap (λ (p : List ℕ). p ++ low-first n (x / 256)) (sym (take-suc-set l i (x % 256) h))
+-- a number is stored from its low byte on: i bytes of n are
+pub store-start : (n x : ℕ) → little-endian n x ≡ little-endian (n - 0) x
+store-start n x =
+    let e : n ≡ n - 0 = omega arith in
+    ap (λ (k : ℕ). little-endian k x) e
+
+pub store-next : (n i x : ℕ) (l : List ℕ) → i < n → length l ≡ n
+    → take i l ++ little-endian (n - i) x ≡ take (i + 1) (set l i (x % 256)) ++ little-endian (n - (i + 1)) (x / 256)
+unfolding little-endian
+store-next n i x l h e =
+    let m : n - i ≡ suc (n - (i + 1)) = omega arith in
+    let s : suc i ≡ i + 1 = omega arith in
+    let rest : List ℕ = little-endian (n - (i + 1)) (x / 256) in
+    ap (λ (k : ℕ). take i l ++ little-endian k x) m
+    ∙ sym (append-assoc (take i l) (x % 256 ∷ []) rest)
+    ∙ ap (λ (p : List ℕ). p ++ rest) (sym (take-suc-set l i (x % 256) (omega arith)))
+    ∙ ap (λ (k : ℕ). take k (set l i (x % 256)) ++ rest) s
+
+pub store-end : (n i x : ℕ) (l : List ℕ) → n ≤ i → length l ≡ n → take i l ++ little-endian (n - i) x ≡ l
+unfolding little-endian
+store-end n i x l h e =
+    let none : n - i ≡ 0 = omega arith in
+    ap (λ (k : ℕ). take i l ++ little-endian k x) none ∙ append-nil (take i l) ∙ take-all i l (omega arith)
 
 -- ---- the entries
 
@@ -121,15 +139,14 @@ pub entries-next : (l out y : List ℕ) (i m : ℕ) → m ≡ 36 → 4 * i + 4 �
     × (take (36 * i) out ++ entries-bytes (hashes-in (drop (4 * i) l)) ≡ take (36 * (i + 1)) (put (36 * i) m out y) ++ entries-bytes (hashes-in (drop (4 * (i + 1)) l)))
 entries-next l out y i m me hl ho is =
     let p = take (36 * i) out in
-    let rest = drop m (drop (36 * i) out) in
     let tail = entries-bytes (hashes-in (drop (4 * (i + 1)) l)) in
     let words : 4 * i + 4 ≡ 4 * (i + 1) = omega arith in
-    let front : length p ≡ 36 * i = length-take-le (36 * i) out (omega arith) in
-    let long : length y ≡ 36 = ap length is ∙ length-entry (hash (getD l (4 * i) 0) (getD l (4 * i + 1) 0) (getD l (4 * i + 2) 0) (getD l (4 * i + 3) 0)) in
-    let both : length (p ++ y) ≡ 36 * (i + 1) = length-append p y ∙ omega (arith, front, long) in
+    let bytes : 36 * i + m ≡ 36 * (i + 1) = omega (arith, me) in
+    let long : length y ≡ m = ap length is ∙ length-entry (hash (getD l (4 * i) 0) (getD l (4 * i + 1) 0) (getD l (4 * i + 2) 0) (getD l (4 * i + 3) 0)) ∙ sym me in
+    let room : 36 * i + m ≤ length out = omega (arith, me, ho) in
     let written : take (36 * (i + 1)) (put (36 * i) m out y) ≡ p ++ y =
-    ap (take (36 * (i + 1))) (sym (append-assoc p y rest)) ∙ take-at (p ++ y) rest (36 * (i + 1)) both in (
-      put-long (36 * i) m out y (omega arith) (long ∙ sym me),
+    ap (λ (k : ℕ). take k (put (36 * i) m out y)) (sym bytes) ∙ put-front (36 * i) m out y room long in (
+      put-long (36 * i) m out y room long,
       ap (λ (r : List ℕ). p ++ r)
           (next-hash l (4 * i) hl
           ∙ ap (λ (b : List ℕ). b ++ entries-bytes (hashes-in (drop (4 * i + 4) l))) (sym is)
@@ -148,36 +165,28 @@ entries-done l out i hl ho =
 
 -- ---- the whole payload
 
-at-most : (t : Bool) (a b c d : ℕ) → length (cond t (a ∷ []) (b ∷ c ∷ d ∷ [])) ≤ 3
-at-most true a b c d = omega arith
-at-most false a b c d = omega arith
-
-pub length-count : (n : ℕ) → length (compact-size n) ≤ 3
-unfolding compact-size
-length-count n = at-most (ltb n 253) n 253 (n % 256) (n / 256)
-
 pub length-payload : (hs : List Hash) (n start : ℕ) → length hs ≡ n → start ≡ length (compact-size n) → length (payload hs) ≡ start + 36 * n
 length-payload hs n start e s = payload-length hs ∙ (λ i. length (compact-size (e i)) + 36 * e i) ∙ ap (λ (k : ℕ). k + 36 * n) (sym s)
 
-pub too-many : (hs : List Hash) (lent : List ℕ) → 256 < length hs → (refused 8 ≡ write-answer hs lent) × (lent ≡ write-left hs lent)
+pub write-too-many : (hs : List Hash) (lent : List ℕ) → 256 < length hs → (refused 8 ≡ write-answer hs lent) × (lent ≡ write-left hs lent)
 unfolding write-answer write-left write-refusal
-too-many hs lent h = rw (lt-ltb 256 (length hs) h) (refl, refl)
+write-too-many hs lent h = rw (lt-ltb 256 (length hs) h) (refl, refl)
 
-pub too-few : (hs : List Hash) (lent : List ℕ) → length hs ≤ 256 → length lent < length (payload hs) → (refused 10 ≡ write-answer hs lent) × (lent ≡ write-left hs lent)
+pub write-too-few : (hs : List Hash) (lent : List ℕ) → length hs ≤ 256 → length lent < length (payload hs) → (refused 10 ≡ write-answer hs lent) × (lent ≡ write-left hs lent)
 unfolding write-answer write-left write-refusal
-too-few hs lent h k = rw (le-ltb 256 (length hs) h, lt-ltb (length lent) (length (payload hs)) k) (refl, refl)
+write-too-few hs lent h k = rw (le-ltb 256 (length hs) h, lt-ltb (length lent) (length (payload hs)) k) (refl, refl)
 
 -- the count's bytes, and the entries' after them
-pub all-written : (hs : List Hash) (lent cs es w : List ℕ) (n start end m : ℕ) → length hs ≡ n → n ≤ 256 → start ≡ length (compact-size n) → end ≡ start + 36 * n
+pub write-whole : (hs : List Hash) (lent cs es w : List ℕ) (n start end m : ℕ) → length hs ≡ n → n ≤ 256 → start ≡ length (compact-size n) → end ≡ start + 36 * n
     → end ≤ length lent → m ≡ end - start → cs ≡ compact-size n → es ≡ entries-bytes hs → w ≡ cs ++ drop start lent
     → (says 0 (end ∷ []) ≡ write-answer hs lent) × (put start m w es ≡ write-left hs lent)
-unfolding write-answer write-left write-refusal payload
-all-written hs lent cs es w n start end m many few s e fits me isC isE isW =
+unfolding payload
+write-whole hs lent cs es w n start end m many few s e fits me isC isE isW =
     let long : length (payload hs) ≡ end = length-payload hs n start many s ∙ sym e in
     let past : start + m ≡ length (payload hs) = omega (arith, me, e, long) in
     let count : cs ≡ compact-size (length hs) = isC ∙ ap compact-size (sym many) in
     let left : put start m w es ≡ payload hs ++ drop (length (payload hs)) lent =
     put-next start m cs lent w es (ap length isC ∙ sym s) isW
     ∙ (λ i. (count i ++ isE i) ++ drop (past i) lent) in
-    rw (le-ltb 256 (length hs) (omega (arith, many, few)), le-ltb (length lent) (length (payload hs)) (omega (arith, long, fits)))
-    (ap (λ (k : ℕ). says 0 (k ∷ [])) (sym long), left)
+    let all = writes hs (payload hs) lent refl (omega (arith, many, few)) (omega (arith, long, fits)) in
+    (ap (λ (k : ℕ). says 0 (k ∷ [])) (sym long) ∙ sym (all .0), left ∙ sym (all .1))

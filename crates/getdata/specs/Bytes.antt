@@ -11,8 +11,8 @@ use lib.Seq.{append-snoc, length-take-le, take-at, drop-at, getD-drop, drop-drop
 use borrow.Author.Tests.{ltb-true, leb-true, eqb-true, lt-ltb, le-ltb, le-leb, eq-eqb, ne-eqb, ltb-false}
 use Rattle.model.specs.declared.Hash.{Hash}
 use Rattle.model.specs.Hash.{base, hash}
-use Rattle.model.specs.Getdata.{max-getdata, compact-size, witness-block, spelt, entry-bytes, entries-bytes, payload}
-use Rattle.model.specs.Getdata.{in-two, count-width, count-of, shortest, entry-size, type-of, msg-witness-block, spells, word-at, entry-hash, all-blocks, entry-hashes}
+use Rattle.model.specs.Getdata.{max-getdata, msg-witness-block, little-endian, big-endian, compact-size, entry-bytes, entries-bytes, payload}
+use Rattle.model.specs.Getdata.{from-little-endian, from-big-endian, in-two, count-width, count-of, shortest, entry-size, type-of, word-at, entry-hash, all-blocks, entry-hashes}
 use Rattle.model.specs.Getdata.{is-getdata, getdata-hashes}
 use Rattle.getdata.specs.Below.{Bytes, FourWords, Hashes}
 
@@ -44,70 +44,88 @@ bytes-take (suc n) (b ∷ l) g (suc i) = bytes-take n l (λ j. g (suc j)) i
 pub bytes-drop : (n : ℕ) (l : List ℕ) → Bytes l → Bytes (drop n l)
 bytes-drop n l g = λ i. subst (λ (x : ℕ). x < 256) (sym (getD-drop n l i 0)) (g (n + i))
 
--- ---- a number and its bytes
+-- ---- a number and its bytes, the low one first
 
-spells-append : (x : ℕ) (l m : List ℕ) → spells x (l ++ m) ≡ spells (spells x l) m
-unfolding spells
-spells-append x [] m = refl
-spells-append x (b ∷ l) m = spells-append (x * 256 + b) l m
+pub length-little-endian : (n x : ℕ) → length (little-endian n x) ≡ n
+unfolding little-endian
+length-little-endian zero x = refl
+length-little-endian (suc n) x = ap suc (length-little-endian n (x / 256))
 
-pub length-spelt : (n x : ℕ) → length (spelt n x) ≡ n
-unfolding spelt
-length-spelt zero x = refl
-length-spelt (suc n) x = omega (arith, length-append (spelt n (x / 256)) (x % 256 ∷ []), length-spelt n (x / 256))
+-- read and written
+little-again : (l : List ℕ) → Bytes l → little-endian (length l) (from-little-endian l) ≡ l
+unfolding little-endian from-little-endian
+little-again [] g = refl
+little-again (b ∷ l) g =
+    let y : ℕ = from-little-endian l in
+    let low : (b + y * 256) % 256 ≡ b = omega (arith, g 0) in
+    let high : (b + y * 256) / 256 ≡ y = omega (arith, g 0) in
+    let rest : little-endian (length l) ((b + y * 256) / 256) ≡ l = ap (little-endian (length l)) high ∙ little-again l (λ i. g (suc i)) in
+    λ i. low i ∷ rest i
+
+-- ---- and the high one first
+
+from-append : (x : ℕ) (l m : List ℕ) → from-big-endian x (l ++ m) ≡ from-big-endian (from-big-endian x l) m
+unfolding from-big-endian
+from-append x [] m = refl
+from-append x (b ∷ l) m = from-append (x * 256 + b) l m
+
+pub length-big-endian : (n x : ℕ) → length (big-endian n x) ≡ n
+unfolding big-endian
+length-big-endian zero x = refl
+length-big-endian (suc n) x = omega (arith, length-append (big-endian n (x / 256)) (x % 256 ∷ []), length-big-endian n (x / 256))
 
 -- divided by 256 so many times, x is 0
 abbrev Ends : ℕ → ℕ → Type 0
 Ends zero x = x ≡ 0
 Ends (suc n) x = Ends n (x / 256)
 
-spells-spelt : (n x : ℕ) → Ends n x → spells 0 (spelt n x) ≡ x
-unfolding spells spelt
-spells-spelt zero x h = sym h
-spells-spelt (suc n) x h =
+from-big-endian-of : (n x : ℕ) → Ends n x → from-big-endian 0 (big-endian n x) ≡ x
+unfolding from-big-endian big-endian
+from-big-endian-of zero x h = sym h
+from-big-endian-of (suc n) x h =
     let e : x / 256 * 256 + x % 256 ≡ x = omega arith in
-    spells-append 0 (spelt n (x / 256)) (x % 256 ∷ []) ∙ ap (λ (y : ℕ). y * 256 + x % 256) (spells-spelt n (x / 256) h) ∙ e
+    from-append 0 (big-endian n (x / 256)) (x % 256 ∷ []) ∙ ap (λ (y : ℕ). y * 256 + x % 256) (from-big-endian-of n (x / 256) h) ∙ e
 
 word-ends : (x : ℕ) → x < base → Ends 8 x
 word-ends x h = omega arith
 
 -- a word is written and read
-word-returns : (x : ℕ) → x < base → spells 0 (spelt 8 x) ≡ x
-word-returns x h = spells-spelt 8 x (word-ends x h)
+word-returns : (x : ℕ) → x < base → from-big-endian 0 (big-endian 8 x) ≡ x
+word-returns x h = from-big-endian-of 8 x (word-ends x h)
 
 -- bytes after the number x, written in k bytes more than they are
-spelt-after : (l : List ℕ) (x k n : ℕ) → Bytes l → k + length l ≡ n → spelt n (spells x l) ≡ spelt k x ++ l
-unfolding spells spelt
-spelt-after [] x k n g e =
+big-endian-after : (l : List ℕ) (x k n : ℕ) → Bytes l → k + length l ≡ n → big-endian n (from-big-endian x l) ≡ big-endian k x ++ l
+unfolding from-big-endian big-endian
+big-endian-after [] x k n g e =
     let f : n ≡ k = omega arith in
-    ap (λ (m : ℕ). spelt m x) f ∙ sym (append-nil (spelt k x))
-spelt-after (b ∷ l) x k n g e =
+    ap (λ (m : ℕ). big-endian m x) f ∙ sym (append-nil (big-endian k x))
+big-endian-after (b ∷ l) x k n g e =
     let f : suc k + length l ≡ n = omega arith in
     let q : (x * 256 + b) / 256 ≡ x = omega (arith, g 0) in
     let r : (x * 256 + b) % 256 ≡ b = omega (arith, g 0) in
-    spelt-after l (x * 256 + b) (suc k) n (λ i. g (suc i)) f
-    ∙ ap (λ (y : ℕ). spelt k y ++ ((x * 256 + b) % 256 ∷ []) ++ l) q
-    ∙ ap (λ (y : ℕ). spelt k x ++ (y ∷ []) ++ l) r
-    ∙ append-snoc (spelt k x) b l
+    big-endian-after l (x * 256 + b) (suc k) n (λ i. g (suc i)) f
+    ∙ ap (λ (y : ℕ). big-endian k y ++ ((x * 256 + b) % 256 ∷ []) ++ l) q
+    ∙ ap (λ (y : ℕ). big-endian k x ++ (y ∷ []) ++ l) r
+    ∙ append-snoc (big-endian k x) b l
 
 -- eight bytes are read and written
-eight-return : (l : List ℕ) → Bytes l → length l ≡ 8 → spelt 8 (spells 0 l) ≡ l
-unfolding spelt
-eight-return l g e = spelt-after l 0 0 8 g (omega arith)
+eight-return : (l : List ℕ) → Bytes l → length l ≡ 8 → big-endian 8 (from-big-endian 0 l) ≡ l
+unfolding big-endian
+eight-return l g e = big-endian-after l 0 0 8 g (omega arith)
 
 -- m, multiplied by 256 so many times
 abbrev grown : ℕ → ℕ → ℕ
 grown zero m = m
 grown (suc n) m = grown n (m * 256)
 
-spells-below : (l : List ℕ) (x m : ℕ) → Bytes l → x < m → spells x l < grown (length l) m
-unfolding spells
-spells-below [] x m g h = h
-spells-below (b ∷ l) x m g h = spells-below l (x * 256 + b) (m * 256) (λ i. g (suc i)) (omega (arith, g 0))
+from-below : (l : List ℕ) (x m : ℕ) → Bytes l → x < m → from-big-endian x l < grown (length l) m
+unfolding from-big-endian
+from-below [] x m g h = h
+from-below (b ∷ l) x m g h = from-below l (x * 256 + b) (m * 256) (λ i. g (suc i)) (omega (arith, g 0))
 
 -- what they spell is a word
-eight-below : (l : List ℕ) → Bytes l → length l ≡ 8 → spells 0 l < base
-eight-below l g e = subst (λ (n : ℕ). spells 0 l < grown n 1) e (spells-below l 0 1 g (omega arith))
+eight-below : (l : List ℕ) → Bytes l → length l ≡ 8 → from-big-endian 0 l < base
+eight-below l g e = subst (λ (n : ℕ). from-big-endian 0 l < grown n 1) e (from-below l 0 1 g (omega arith))
 
 -- ---- an entry, written and read
 
@@ -116,39 +134,39 @@ four-joined u v w z r =
     append-assoc u (v ++ (w ++ z)) r
     ∙ ap (λ (m : List ℕ). u ++ m) (append-assoc v (w ++ z) r ∙ ap (λ (m : List ℕ). v ++ m) (append-assoc w z r))
 
-entry-split : (h : Hash) (r : List ℕ) → entry-bytes h ++ r ≡ witness-block ++ (spelt 8 (h .a) ++ (spelt 8 (h .b) ++ (spelt 8 (h .c) ++ (spelt 8 (h .d) ++ r))))
-unfolding entry-bytes
-entry-split h r = ap (λ (m : List ℕ). witness-block ++ m) (four-joined (spelt 8 (h .a)) (spelt 8 (h .b)) (spelt 8 (h .c)) (spelt 8 (h .d)) r)
+entry-split : (h : Hash) (r : List ℕ) → entry-bytes h ++ r ≡ little-endian 4 msg-witness-block ++ (big-endian 8 (h .a) ++ (big-endian 8 (h .b) ++ (big-endian 8 (h .c) ++ (big-endian 8 (h .d) ++ r))))
+unfolding entry-bytes little-endian
+entry-split h r = ap (λ (m : List ℕ). little-endian 4 msg-witness-block ++ m) (four-joined (big-endian 8 (h .a)) (big-endian 8 (h .b)) (big-endian 8 (h .c)) (big-endian 8 (h .d)) r)
 
 pub length-entry : (h : Hash) → length (entry-bytes h) ≡ 36
-unfolding entry-bytes
+unfolding entry-bytes little-endian
 length-entry h =
-    let u = spelt 8 (h .a) in
-    let v = spelt 8 (h .b) in
-    let w = spelt 8 (h .c) in
-    let z = spelt 8 (h .d) in
+    let u = big-endian 8 (h .a) in
+    let v = big-endian 8 (h .b) in
+    let w = big-endian 8 (h .c) in
+    let z = big-endian 8 (h .d) in
     omega (
       arith,
       length-append u (v ++ (w ++ z)),
       length-append v (w ++ z),
       length-append w z,
-      length-spelt 8 (h .a),
-      length-spelt 8 (h .b),
-      length-spelt 8 (h .c),
-      length-spelt 8 (h .d),
+      length-big-endian 8 (h .a),
+      length-big-endian 8 (h .b),
+      length-big-endian 8 (h .c),
+      length-big-endian 8 (h .d),
     )
 
 drop-entry : (h : Hash) (r : List ℕ) → drop entry-size (entry-bytes h ++ r) ≡ r
 drop-entry h r = drop-at (entry-bytes h) r 36 (length-entry h)
 
 type-written : (h : Hash) (r : List ℕ) → type-of (entry-bytes h ++ r) ≡ msg-witness-block
-unfolding type-of entry-bytes
+unfolding type-of entry-bytes little-endian from-little-endian
 type-written h r = refl
 
 -- the words of an entry stand in four rows of eight bytes
 entry-at : (u v w z r : List ℕ) → length u ≡ 8 → length v ≡ 8 → length w ≡ 8 → length z ≡ 8
-    → entry-hash (witness-block ++ (u ++ (v ++ (w ++ (z ++ r))))) ≡ hash (spells 0 u) (spells 0 v) (spells 0 w) (spells 0 z)
-unfolding entry-hash word-at
+    → entry-hash (little-endian 4 msg-witness-block ++ (u ++ (v ++ (w ++ (z ++ r))))) ≡ hash (from-big-endian 0 u) (from-big-endian 0 v) (from-big-endian 0 w) (from-big-endian 0 z)
+unfolding entry-hash word-at little-endian
 entry-at u v w z r eu ev ew ez =
     let l : List ℕ = u ++ (v ++ (w ++ (z ++ r))) in
     let d₁ : drop 8 l ≡ v ++ (w ++ (z ++ r)) = drop-at u (v ++ (w ++ (z ++ r))) 8 eu in
@@ -158,34 +176,24 @@ entry-at u v w z r eu ev ew ez =
     let b : take 8 (drop 8 l) ≡ v = ap (λ (m : List ℕ). take 8 m) d₁ ∙ take-at v (w ++ (z ++ r)) 8 ev in
     let c : take 8 (drop 16 l) ≡ w = ap (λ (m : List ℕ). take 8 m) d₂ ∙ take-at w (z ++ r) 8 ew in
     let d : take 8 (drop 24 l) ≡ z = ap (λ (m : List ℕ). take 8 m) d₃ ∙ take-at z r 8 ez in
-    λ i. hash (spells 0 (a i)) (spells 0 (b i)) (spells 0 (c i)) (spells 0 (d i))
+    λ i. hash (from-big-endian 0 (a i)) (from-big-endian 0 (b i)) (from-big-endian 0 (c i)) (from-big-endian 0 (d i))
 
 entry-returns : (h : Hash) (r : List ℕ) → FourWords h → entry-hash (entry-bytes h ++ r) ≡ h
 entry-returns h r f =
     ap entry-hash (entry-split h r)
-    ∙ entry-at (spelt 8 (h .a)) (spelt 8 (h .b)) (spelt 8 (h .c)) (spelt 8 (h .d)) r
-    (length-spelt 8 (h .a)) (length-spelt 8 (h .b)) (length-spelt 8 (h .c)) (length-spelt 8 (h .d))
+    ∙ entry-at (big-endian 8 (h .a)) (big-endian 8 (h .b)) (big-endian 8 (h .c)) (big-endian 8 (h .d)) r
+    (length-big-endian 8 (h .a)) (length-big-endian 8 (h .b)) (length-big-endian 8 (h .c)) (length-big-endian 8 (h .d))
     ∙ (λ i. hash (word-returns (h .a) (f .0) i) (word-returns (h .b) (f .1) i) (word-returns (h .c) (f .2) i) (word-returns (h .d) (f .3) i))
 
 -- ---- and read and written
 
--- the type's number is that of these four bytes and no others
-four-bytes : (a b c d : ℕ) → a < 256 → b < 256 → c < 256 → a + b * 256 + c * 65536 + d * 16777216 ≡ msg-witness-block
-    → _≡_ {A = List ℕ} (a ∷ b ∷ c ∷ d ∷ []) witness-block
-four-bytes a b c d ha hb hc e =
-    let ed : d ≡ 64 = omega arith in
-    let ec : c ≡ 0 = omega arith in
-    let eb : b ≡ 0 = omega arith in
-    let ea : a ≡ 2 = omega arith in
-    λ i. ea i ∷ eb i ∷ ec i ∷ ed i ∷ []
-
-type-bytes : (es : List ℕ) → Bytes es → 36 ≤ length es → type-of es ≡ msg-witness-block → take 4 es ≡ witness-block
+-- the bytes of this type are these and no others
+type-bytes : (es : List ℕ) → Bytes es → 36 ≤ length es → type-of es ≡ msg-witness-block → take 4 es ≡ little-endian 4 msg-witness-block
 unfolding type-of
-type-bytes [] g h e = absurd (omega arith)
-type-bytes (a ∷ []) g h e = absurd (omega arith)
-type-bytes (a ∷ b ∷ []) g h e = absurd (omega arith)
-type-bytes (a ∷ b ∷ c ∷ []) g h e = absurd (omega arith)
-type-bytes (a ∷ b ∷ c ∷ d ∷ l) g h e = four-bytes a b c d (g 0) (g 1) (g 2) e
+type-bytes es g h e =
+    let l : List ℕ = take 4 es in
+    let four : length l ≡ 4 = length-take-le 4 es (omega arith) in
+    sym (little-again l (bytes-take 4 es g)) ∙ (λ i. little-endian (four i) (e i))
 
 -- a row of eight bytes, and the rest
 cut-eight : (k n : ℕ) (es : List ℕ) → take (8 + n) (drop k es) ≡ take 8 (drop k es) ++ take n (drop (k + 8) es)
@@ -204,7 +212,7 @@ row-long es k h = length-take-le 8 (drop k es) (omega (arith, length-drop k es))
 row-bytes : (es : List ℕ) (k : ℕ) → Bytes es → Bytes (take 8 (drop k es))
 row-bytes es k g = bytes-take 8 (drop k es) (bytes-drop k es g)
 
-word-again : (es : List ℕ) (k : ℕ) → Bytes es → k + 8 ≤ length es → spelt 8 (word-at es k) ≡ take 8 (drop k es)
+word-again : (es : List ℕ) (k : ℕ) → Bytes es → k + 8 ≤ length es → big-endian 8 (word-at es k) ≡ take 8 (drop k es)
 unfolding word-at
 word-again es k g h = eight-return (take 8 (drop k es)) (row-bytes es k g) (row-long es k h)
 
@@ -233,13 +241,13 @@ unfolding entries-bytes
 length-entries [] = refl
 length-entries (h ∷ hs) = omega (arith, length-append (entry-bytes h) (entries-bytes hs), length-entry h, length-entries hs)
 
-pub all-written : (hs : List Hash) → all-blocks (length hs) (entries-bytes hs) ≡ true
+pub blocks-written : (hs : List Hash) → all-blocks (length hs) (entries-bytes hs) ≡ true
 unfolding all-blocks entries-bytes
-all-written [] = refl
-all-written (h ∷ hs) =
+blocks-written [] = refl
+blocks-written (h ∷ hs) =
     let r : List ℕ = entries-bytes hs in
     let t : eqb (type-of (entry-bytes h ++ r)) msg-witness-block ≡ true = eq-eqb (type-of (entry-bytes h ++ r)) msg-witness-block (type-written h r) in
-    let m : all-blocks (length hs) (drop entry-size (entry-bytes h ++ r)) ≡ true = ap (λ (l : List ℕ). all-blocks (length hs) l) (drop-entry h r) ∙ all-written hs in
+    let m : all-blocks (length hs) (drop entry-size (entry-bytes h ++ r)) ≡ true = ap (λ (l : List ℕ). all-blocks (length hs) l) (drop-entry h r) ∙ blocks-written hs in
     and-both (eqb (type-of (entry-bytes h ++ r)) msg-witness-block) (all-blocks (length hs) (drop entry-size (entry-bytes h ++ r))) t m
 
 pub hashes-return : (hs : List Hash) → Hashes hs → entry-hashes (length hs) (entries-bytes hs) ≡ hs
@@ -296,27 +304,34 @@ in-one n r h =
       long = rw e (omega arith);
     }
 
-in-three : (n : ℕ) (r : List ℕ) → 253 ≤ n → Counted (253 ∷ n % 256 ∷ n / 256 ∷ r) n r
-unfolding in-two count-width count-of shortest
-in-three n r h = record {
-  form = le-leb 253 (n % 256 + n / 256 * 256) (omega arith);
+in-three : (n : ℕ) (r : List ℕ) → 253 ≤ n → n ≤ max-getdata → Counted (253 ∷ little-endian 2 n ++ r) n r
+unfolding in-two count-width count-of shortest little-endian from-little-endian
+in-three n r h few = record {
+  form = le-leb 253 (n % 256 + (n / 256 % 256 + 0 * 256) * 256) (omega arith);
   count = omega arith;
   rest = refl;
   long = omega arith;
 }
 
-size-one : (n : ℕ) → n < 253 → compact-size n ≡ n ∷ []
+pub size-one : (n : ℕ) → n < 253 → compact-size n ≡ n ∷ []
 unfolding compact-size
 size-one n h = rw (lt-ltb n 253 h)
 
-size-three : (n : ℕ) → 253 ≤ n → compact-size n ≡ 253 ∷ n % 256 ∷ n / 256 ∷ []
+pub size-three : (n : ℕ) → 253 ≤ n → compact-size n ≡ 253 ∷ little-endian 2 n
 unfolding compact-size
 size-three n h = rw (le-ltb n 253 h)
 
-pub count-returns : (n : ℕ) (r : List ℕ) → Counted (compact-size n ++ r) n r
-count-returns n r = elim (both (ltb n 253)) [
+-- one byte or three
+pub length-count : (n : ℕ) → (1 ≤ length (compact-size n)) × (length (compact-size n) ≤ 3)
+length-count n = elim (both (ltb n 253)) [
+  | inl q ↦ let e = ap length (size-one n (ltb-true n 253 q)) in (omega (arith, e), omega (arith, e))
+  | inr q ↦ let e = ap length (size-three n (ltb-false n 253 q)) in (omega (arith, e), omega (arith, e, length-little-endian 2 n))
+]
+
+pub count-returns : (n : ℕ) (r : List ℕ) → n ≤ max-getdata → Counted (compact-size n ++ r) n r
+count-returns n r few = elim (both (ltb n 253)) [
   | inl q ↦ subst (λ (l : List ℕ). Counted (l ++ r) n r) (sym (size-one n (ltb-true n 253 q))) (in-one n r (ltb-true n 253 q))
-  | inr q ↦ subst (λ (l : List ℕ). Counted (l ++ r) n r) (sym (size-three n (ltb-false n 253 q))) (in-three n r (ltb-false n 253 q))
+  | inr q ↦ subst (λ (l : List ℕ). Counted (l ++ r) n r) (sym (size-three n (ltb-false n 253 q))) (in-three n r (ltb-false n 253 q) few)
 ]
 
 -- the other way: what is read as the count and the rest is written as the same bytes
@@ -329,17 +344,14 @@ again-one b l e = λ s h.
     let k : ltb b 253 ≡ true = rw e at s in
     rw e (ap (λ (m : List ℕ). m ++ l) (size-one b (ltb-true b 253 k)))
 
-three-again : (c d : ℕ) (l : List ℕ) → c < 256 → 253 ≤ c + d * 256 → compact-size (c + d * 256) ++ l ≡ 253 ∷ c ∷ d ∷ l
-three-again c d l g h =
-    let ec : (c + d * 256) % 256 ≡ c = omega arith in
-    let ed : (c + d * 256) / 256 ≡ d = omega arith in
-    ap (λ (m : List ℕ). m ++ l) (size-three (c + d * 256) h) ∙ (λ i. 253 ∷ ec i ∷ ed i ∷ l)
-
 again-three : (l : List ℕ) → Bytes l → Again (253 ∷ l)
 unfolding in-two count-width count-of shortest
 again-three [] g = λ s h. absurd (omega arith)
 again-three (c ∷ []) g = λ s h. absurd (omega arith)
-again-three (c ∷ d ∷ l) g = λ s h. three-again c d l (g 0) (leb-true 253 (c + d * 256) s)
+again-three (c ∷ d ∷ l) g = λ s h.
+    let n : ℕ = from-little-endian (c ∷ d ∷ []) in
+    let two : little-endian 2 n ≡ c ∷ d ∷ [] = little-again (c ∷ d ∷ []) (bytes-take 2 (c ∷ d ∷ l) g) in
+    ap (λ (m : List ℕ). m ++ l) (size-three n (leb-true 253 n s)) ∙ (λ i. 253 ∷ two i ++ l)
 
 again-first : (b : ℕ) (l : List ℕ) → Bytes (b ∷ l) → Again (b ∷ l)
 again-first b l g = elim (both (eqb b 253)) [
@@ -385,18 +397,18 @@ pub entries-long : (p : List ℕ) → Accepted p → length (drop (count-width p
 entries-long p k = omega (arith, length-drop (count-width p) p, k .long)
 
 -- a written payload, read
-pub payload-counted : (hs : List Hash) → Counted (payload hs) (length hs) (entries-bytes hs)
+pub payload-counted : (hs : List Hash) → length hs ≤ max-getdata → Counted (payload hs) (length hs) (entries-bytes hs)
 unfolding payload
-payload-counted hs = count-returns (length hs) (entries-bytes hs)
+payload-counted hs h = count-returns (length hs) (entries-bytes hs) h
 
 pub payload-accepted : (hs : List Hash) → length hs ≤ max-getdata → Accepted (payload hs)
 payload-accepted hs h =
-    let q = payload-counted hs in
+    let q = payload-counted hs h in
     record {
       form = q .form;
       few = subst (λ (n : ℕ). n ≤ max-getdata) (sym (q .count)) h;
       long = omega (arith, q .long, q .count, length-entries hs);
-      blocks = (λ i. all-blocks (q .count i) (q .rest i)) ∙ all-written hs;
+      blocks = (λ i. all-blocks (q .count i) (q .rest i)) ∙ blocks-written hs;
     }
 
 -- an accepted payload's hashes are at most 256, each of four words

@@ -13,7 +13,7 @@ use Rattle.model.specs.Perform.{says}
 use Rattle.model.specs.Getdata.{max-getdata, compact-size, entries-bytes, payload, is-getdata, getdata-hashes, count-of, count-width, entry-hashes}
 use Rattle.model.specs.Getdata.{write-answer, write-left, read-answer, read-left}
 use Rattle.getdata.specs.Below.{Bytes, Words, Hashes}
-use Rattle.getdata.specs.Bytes.{bytes-drop, length-entries, hashes-return, length-entry-hashes, entries-again, count-again}
+use Rattle.getdata.specs.Bytes.{bytes-drop, length-entries, hashes-return, length-entry-hashes, entries-again, length-count, count-again}
 use Rattle.getdata.specs.Bytes.{accepted-by, accepted-parts, entries-long, payload-counted, payload-accepted, hashes-few, hashes-are}
 use Rattle.getdata.specs.Answers.{hashes-of, writes, reads, write-told, read-told}
 
@@ -22,11 +22,15 @@ pub payload-length : (hs : List Hash) → length (payload hs) ≡ length (compac
 unfolding payload
 payload-length hs = omega (arith, length-append (compact-size (length hs)) (entries-bytes hs), length-entries hs)
 
+-- No payload of at most 256 hashes has more than 9,219 bytes
+pub payload-longest : (hs : List Hash) → length hs ≤ max-getdata → length (payload hs) ≤ 9219
+payload-longest hs h = omega (arith, payload-length hs, length-count (length hs) .1)
+
 -- A list of at most 256 hashes, written and read: the payload is accepted, and names the same list
 pub list-returns : (hs : List Hash) → Hashes hs → length hs ≤ max-getdata → (is-getdata (payload hs) ≡ true) × (getdata-hashes (payload hs) ≡ hs)
 unfolding getdata-hashes
 list-returns hs f h =
-    let q = payload-counted hs in
+    let q = payload-counted hs h in
     (accepted-by (payload hs) (payload-accepted hs h), (λ i. entry-hashes (q .count i) (q .rest i)) ∙ hashes-return hs f)
 
 -- An accepted payload, read and written, is its own bytes

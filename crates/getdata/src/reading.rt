@@ -5,9 +5,9 @@ ghost use lib.Dec.{eqb};
 ghost use lib.ListN.{length, getD};
 ghost use Rattle.model.specs.Hash.{hash-words, hashes-words};
 ghost use Rattle.model.specs.Says.{number-says};
-ghost use Rattle.model.specs.Getdata.{count-width, count-of, shortest, type-of, msg-witness-block, spells, all-blocks, entry-hash, entry-hashes};
+ghost use Rattle.model.specs.Getdata.{from-big-endian, count-width, count-of, shortest, entry-size, type-of, msg-witness-block, all-blocks, entry-hash, entry-hashes};
 ghost use Rattle.model.specs.Getdata.{is-getdata, read-answer, read-left};
-use crate::spelling;
+use crate::wire;
 use model::Number;
 use model::sizes;
 
@@ -33,8 +33,8 @@ fn byte_at(bytes: &[u8], at: usize) -> u64
 fn count_width(payload: &[u8]) -> usize
     ensures { λ r. ⌜ (r ≡ count-width (now (payload .entry))) × (r ≤ 3) ⌝ }
 {
-    if byte_at(payload, 0) == spelling::IN_TWO as u64 {
-        return spelling::IN_TWO_WIDTH;
+    if byte_at(payload, 0) == wire::IN_TWO as u64 {
+        return wire::IN_TWO_WIDTH;
     }
     1
 }
@@ -43,7 +43,7 @@ fn count_of(payload: &[u8]) -> usize
     ensures { λ r. ⌜ (r ≡ count-of (now (payload .entry))) × (r < 65536) ⌝ }
 {
     let first = byte_at(payload, 0);
-    if first == spelling::IN_TWO as u64 {
+    if first == wire::IN_TWO as u64 {
         return (byte_at(payload, 1) + byte_at(payload, 2) * 256) as usize;
     }
     first as usize
@@ -54,10 +54,10 @@ fn is_shortest(payload: &[u8]) -> bool
     ensures { λ r. ⌜ r ≡ shortest (now (payload .entry)) ⌝ }
 {
     let first = byte_at(payload, 0);
-    if first == spelling::IN_TWO as u64 {
-        return spelling::IN_TWO <= count_of(payload);
+    if first == wire::IN_TWO as u64 {
+        return wire::IN_TWO <= count_of(payload);
     }
-    first < spelling::IN_TWO as u64
+    first < wire::IN_TWO as u64
 }
 
 // The type, the low byte first, is that of a block with its witness.
@@ -65,18 +65,18 @@ fn is_block(entry: &[u8]) -> bool
     requires { ⌜ 4 ≤ length (now entry) ⌝ }
     ensures { λ r. ⌜ r ≡ eqb (type-of (now (entry .entry))) msg-witness-block ⌝ }
 {
-    byte(entry, 0) + byte(entry, 1) * 256 + byte(entry, 2) * 65_536 + byte(entry, 3) * 16_777_216
-        == spelling::MSG_WITNESS_BLOCK
+    byte(entry, 0) + (byte(entry, 1) + (byte(entry, 2) + byte(entry, 3) * 256) * 256) * 256
+        == wire::MSG_WITNESS_BLOCK
 }
 
 // Each of so many entries is of that type.
 fn all_blocks(entries: &[u8], n: usize) -> bool
-    requires { ⌜ n * 36 ≤ length (now entries) ⌝ }
+    requires { ⌜ n * entry-size ≤ length (now entries) ⌝ }
     ensures { λ r. ⌜ r ≡ all-blocks n (now (entries .entry)) ⌝ }
 {
     let mut i = 0;
     while i < n {
-        let at = spelling::ENTRY_SIZE * i;
+        let at = wire::ENTRY_SIZE * i;
         if !is_block(&entries[at..]) {
             return false;
         }
@@ -93,11 +93,11 @@ fn is_getdata(payload: &[u8]) -> bool
         return false;
     }
     let n = count_of(payload);
-    if spelling::MAX_GETDATA < n {
+    if wire::MAX_GETDATA < n {
         return false;
     }
     let start = count_width(payload);
-    if payload.len() != start + n * spelling::ENTRY_SIZE {
+    if payload.len() != start + n * wire::ENTRY_SIZE {
         return false;
     }
     all_blocks(&payload[start..], n)
@@ -106,11 +106,11 @@ fn is_getdata(payload: &[u8]) -> bool
 // The number in eight bytes, the high one first.
 fn word(bytes: &[u8]) -> u64
     requires { ⌜ length (now bytes) ≡ 8 ⌝ }
-    ensures { λ r. ⌜ r ≡ spells 0 (now (bytes .entry)) ⌝ }
+    ensures { λ r. ⌜ r ≡ from-big-endian 0 (now (bytes .entry)) ⌝ }
 {
     let mut x: u64 = 0;
     let mut i = 0;
-    while i < spelling::WORD_SIZE {
+    while i < wire::WORD_SIZE {
         let b = byte(bytes, i);
         x = x * 256 + b;
         i += 1;
@@ -120,23 +120,23 @@ fn word(bytes: &[u8]) -> u64
 
 // The four words of an entry's hash.
 fn read_hash(entry: &[u8], hash: &mut [u64])
-    requires { ⌜ (36 ≤ length (now entry)) × (length (now hash) ≡ 4) ⌝ }
+    requires { ⌜ (entry-size ≤ length (now entry)) × (length (now hash) ≡ 4) ⌝ }
     ensures { λ _. ⌜ now (hash .exit) ≡ hash-words (entry-hash (now (entry .entry))) ⌝ }
 {
-    hash[0] = word(&entry[spelling::FIRST..spelling::SECOND]);
-    hash[1] = word(&entry[spelling::SECOND..spelling::THIRD]);
-    hash[2] = word(&entry[spelling::THIRD..spelling::FOURTH]);
-    hash[3] = word(&entry[spelling::FOURTH..spelling::ENTRY_SIZE]);
+    hash[0] = word(&entry[wire::FIRST..wire::SECOND]);
+    hash[1] = word(&entry[wire::SECOND..wire::THIRD]);
+    hash[2] = word(&entry[wire::THIRD..wire::FOURTH]);
+    hash[3] = word(&entry[wire::FOURTH..wire::ENTRY_SIZE]);
 }
 
 // The entry reader: it is given what follows the count, and a place of the list for each entry.
 fn read_entries(entries: &[u8], hashes: &mut [u64], n: usize)
-    requires { ⌜ (n * 36 ≤ length (now entries)) × (length (now hashes) ≡ n * 4) ⌝ }
+    requires { ⌜ (n * entry-size ≤ length (now entries)) × (length (now hashes) ≡ n * 4) ⌝ }
     ensures { λ _. ⌜ now (hashes .exit) ≡ hashes-words (entry-hashes n (now (entries .entry))) ⌝ }
 {
     let mut i = 0;
     while i < n {
-        let at = spelling::ENTRY_SIZE * i;
+        let at = wire::ENTRY_SIZE * i;
         let w = sizes::HASH_WORDS * i;
         let end = w + sizes::HASH_WORDS;
         read_hash(&entries[at..], &mut hashes[w..end]);

@@ -4,6 +4,9 @@
 //! order (a block explorer shows them the other way round): the genesis block's in Bitcoin Core's chainparams.cpp, the next two in the headers after it.
 //! The types are BIP 144's (MSG_WITNESS_BLOCK 0x40000002, MSG_WITNESS_TX 0x40000001, MSG_FILTERED_WITNESS_BLOCK 0x40000003), the protocol's older ones
 //! (MSG_TX 1, MSG_BLOCK 2, MSG_FILTERED_BLOCK 3) and BIP 152's (MSG_CMPCT_BLOCK 4). The count is the protocol's "variable length integer".
+//!
+//! One message is published whole: the example of an inventory in the Bitcoin developer reference (inv; "the format … of the getdata message" is the same),
+//! which names two transactions. As a getdata payload it is refused for its types, and accepted once these are the witness block's.
 
 /// A payload and its hashes as words; `None` is refused by 11.
 pub struct Message {
@@ -22,6 +25,12 @@ const BLOCK_1_WORDS: [u64; 4] = [0x4860eb18bf1b1620, 0xe37e9490fc8a4275, 0x14416
 const BLOCK_2: &str = "bddd99cc fda39da1 b108ce1a 5d70038d 0a967bac b68b6b63 065f626a 00000000";
 const BLOCK_2_WORDS: [u64; 4] = [0xbddd99ccfda39da1, 0xb108ce1a5d70038d, 0x0a967bacb68b6b63, 0x065f626a00000000];
 
+/// The developer reference's two hashes.
+const EXAMPLE_1: &str = "de55ffd709ac1f5dc509a0925d0b1fc4 42ca034f224732e429081da1b621f55a";
+const EXAMPLE_1_WORDS: [u64; 4] = [0xde55ffd709ac1f5d, 0xc509a0925d0b1fc4, 0x42ca034f224732e4, 0x29081da1b621f55a];
+const EXAMPLE_2: &str = "91d36d997037e08018262978766f24b8 a055aaf1d872e94ae85e9817b2c68dc7";
+const EXAMPLE_2_WORDS: [u64; 4] = [0x91d36d997037e080, 0x18262978766f24b8, 0xa055aaf1d872e94a, 0xe85e9817b2c68dc7];
+
 pub fn messages() -> Vec<Message> {
     let mut messages = vec![
         accepted("nothing asked for", "00".into(), &[]),
@@ -36,6 +45,12 @@ pub fn messages() -> Vec<Message> {
             "blocks 2, 1 and 2 again",
             format!("03 02000040 {BLOCK_2} 02000040 {BLOCK_1} 02000040 {BLOCK_2}"),
             [BLOCK_2_WORDS, BLOCK_1_WORDS, BLOCK_2_WORDS].as_flattened(),
+        ),
+        refused("the developer reference's inventory", format!("02 01000000 {EXAMPLE_1} 01000000 {EXAMPLE_2}")),
+        accepted(
+            "the same, asking for witness blocks",
+            format!("02 02000040 {EXAMPLE_1} 02000040 {EXAMPLE_2}"),
+            [EXAMPLE_1_WORDS, EXAMPLE_2_WORDS].as_flattened(),
         ),
     ];
     for (prefix, count) in [("fc", 252), ("fdfd00", 253), ("fdfe00", 254), ("fdff00", 255), ("fd0001", 256)] {

@@ -10,23 +10,23 @@ byte-requires c κs = search needs
 byte-requires-2 : tie.Need-byte-requires-2
 byte-requires-2 c κs = search needs
 
+byte-requires-3 : tie.Need-byte-requires-3
+byte-requires-3 c κs = search needs
+
+byte-requires-4 : tie.Need-byte-requires-4
+byte-requires-4 c κs = search needs
+
 mul-result : tie.Need-mul-result
 mul-result c = search needs
 
 add-result : tie.Need-add-result
 add-result c = search needs
 
-byte-requires-3 : tie.Need-byte-requires-3
-byte-requires-3 c κs = search needs
-
 mul-result-2 : tie.Need-mul-result-2
 mul-result-2 c = search needs
 
 add-result-2 : tie.Need-add-result-2
 add-result-2 c = search needs
-
-byte-requires-4 : tie.Need-byte-requires-4
-byte-requires-4 c κs = search needs
 
 mul-result-3 : tie.Need-mul-result-3
 mul-result-3 c = search needs
@@ -49,12 +49,12 @@ is-block-spec =
     (tie.spec
     byte-requires
     byte-requires-2
+    byte-requires-3
+    byte-requires-4
     mul-result
     add-result
-    byte-requires-3
     mul-result-2
     add-result-2
-    byte-requires-4
     mul-result-3
     add-result-3
     returns)

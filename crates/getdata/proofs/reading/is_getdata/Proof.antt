@@ -4,7 +4,7 @@ use Prim.Native.Nat.{_+_, _*_}
 use native.Mathlib.Omega.{arith}
 use lib.ListN.{length}
 use borrow.Author.Needs.{needs}
-use Rattle.getdata.proofs.Reader.{told-true, told-false, rest-of, not-shortest, too-many, not-long, long}
+use Rattle.getdata.proofs.Reader.{told-true, told-false, rest-of, not-shortest, above-256, not-long, long}
 use Rattle.getdata.proofs.reading.is_getdata.Statement.{statement}
 use Rattle.getdata.proofs.reading.is_getdata.Tie as tie
 
@@ -21,7 +21,7 @@ returns-2 : tie.Need-returns-2
 returns-2 c =
     let n = c .before .count-of in
     let s = told-true (c .before .before .before .is-shortest .ensures) (c .before .before .if1 .left) in
-    too-many (c .before .before .before .before .before .args .payload .now) (n .result) s (n .ensures .0) (omega (arith, c .if2 .taken))
+    above-256 (c .before .before .before .before .before .args .payload .now) (n .result) s (n .ensures .0) (omega (arith, c .if2 .taken))
 
 count-width-requires : tie.Need-count-width-requires
 count-width-requires c κs = search needs
@@ -38,7 +38,7 @@ returns-3 c =
     let w = c .before .count-width in
     let s = told-true (c .before .before .before .before .before .is-shortest .ensures) (c .before .before .before .before .if1 .left) in
     let p = c .before .before .before .before .before .before .before .args .payload .now in
-    not-long p (n .result) s (n .ensures .0) (w .result) (omega (arith, c .before .before .if2 .left)) (w .ensures .0)
+    not-long p (n .result) s (n .ensures .0) (w .result) (w .ensures .0)
     (λ (e : length p ≡ w .result + n .result * 36). omega (arith, e, c .if3 .taken))
 
 sub-all-blocks : tie.Need-sub-all-blocks
@@ -59,8 +59,8 @@ returns-4 c =
     let n = c .before .before .before .before .before .count-of in
     let w = c .before .before .before .count-width in
     let s = told-true (c .before .before .before .before .before .before .before .is-shortest .ensures) (c .before .before .before .before .before .before .if1 .left) in
-    long p (n .result) s (n .ensures .0) (w .result) (omega (arith, c .before .before .before .before .if2 .left)) (w .ensures .0)
-    (c .all-blocks .result) _ (omega (arith, c .before .before .if3 .left)) (rest-of (w .result) p) (c .all-blocks .ensures)
+    long p (n .result) s (n .ensures .0) (w .result) (w .ensures .0)
+    (c .all-blocks .result) _ (omega (arith, c .before .before .before .before .if2 .left)) (omega (arith, c .before .before .if3 .left)) (rest-of (w .result) p) (c .all-blocks .ensures)
 
 pub is-getdata-spec : {M : Type 1} → statement M
 is-getdata-spec =

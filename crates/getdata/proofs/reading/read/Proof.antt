@@ -86,8 +86,8 @@ returns-3 c =
     let w = c .before .before .before .before .before .count-width in
     let r = c .before .before .read-entries in (
       answer-0 p (a .hashes .now) (n .result) h (n .ensures .0) (omega (arith, fits)),
-      left-0 p (a .hashes .now) (n .result) h (n .ensures .0) (w .result) (n .result * 4) _ (r .last .1 .0)
-          (omega (arith, fits)) (w .ensures .0) (rest-of (w .result) p) refl (r .ensures),
+      left-0 p (a .hashes .now) (n .result) h (n .ensures .0) (omega (arith, fits)) (w .result) (n .result * 4) _ (r .last .1 .0)
+          (w .ensures .0) (rest-of (w .result) p) refl (r .ensures),
     )
 
 pub read-spec : {M : Type 1} → statement M

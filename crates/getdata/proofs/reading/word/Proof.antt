@@ -5,14 +5,14 @@ use native.Mathlib.Numerals.{add-one}
 use native.Mathlib.Omega.{arith}
 use lib.ListN.{drop}
 use borrow.Author.Needs.{needs}
-use Rattle.model.specs.Getdata.{spells}
-use Rattle.getdata.proofs.Both.{room, grown}
-use Rattle.getdata.proofs.Reader.{spells-on, spells-end}
+use Rattle.model.specs.Getdata.{from-big-endian}
+use Rattle.getdata.proofs.Both.{room, one-more}
+use Rattle.getdata.proofs.Reader.{from-next, from-end}
 use Rattle.getdata.proofs.reading.word.Statement.{statement}
 use Rattle.getdata.proofs.reading.word.Tie as tie
 
 abbrev Inv-loop : tie.InvT-loop
-Inv-loop bytes x₀ i₀ x i = (i ≤ 8) × (x < 256 ^ i) × (spells 0 bytes ≡ spells x (drop i bytes))
+Inv-loop bytes x₀ i₀ x i = (i ≤ 8) × (x < 256 ^ i) × (from-big-endian 0 bytes ≡ from-big-endian x (drop i bytes))
 
 abbrev μ-loop : tie.MeasureT-loop
 μ-loop bytes x₀ i₀ x i = 8 - i
@@ -45,14 +45,14 @@ loop-again c =
     let v = c .before .before .loop in
     let b = c .byte in (
       omega arith,
-      rw add-one (grown (v .i) (v .x) (b .result) (v .inv .1) (b .ensures .1)),
-      v .inv .2 ∙ spells-on bs (v .i) (v .x) (b .result) (omega arith) (b .ensures .0),
+      rw add-one (one-more (v .i) (v .x) (b .result) (v .inv .1) (b .ensures .1)),
+      v .inv .2 ∙ from-next bs (v .i) (v .x) (b .result) (omega arith) (b .ensures .0),
     )
 
 returns : tie.Need-returns Inv-loop μ-loop
 returns c =
     let v = c .before .loop in
-    sym (v .inv .2 ∙ spells-end (c .before .before .before .args .bytes .now) (v .i) (v .x) (omega arith))
+    sym (v .inv .2 ∙ from-end (c .before .before .before .args .bytes .now) (v .i) (v .x) (omega arith))
 
 pub word-spec : {M : Type 1} → statement M
 word-spec = tie.close (tie.spec Inv-loop μ-loop loop-holds byte-requires mul-x add-x add-i loop-less loop-again returns)

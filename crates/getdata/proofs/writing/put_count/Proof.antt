@@ -1,66 +1,69 @@
 -- `getdata::writing::put_count` meets its contract. Assumes nothing.
-use mathlib.Core.Path.{_≡_, _∙_}
-use Prim.Native.Nat.{ℕ, _<_, _≤_}
+use mathlib.Core.Path.{_≡_, sym, ap, _∙_}
+use Prim.Native.Nat.{ℕ, _≤_}
 use native.Mathlib.Omega.{arith}
-use lib.ListN.{length, length-set}
-use borrow.Author.Tests.{lt-ltb, le-ltb}
-use Rattle.model.specs.Getdata.{compact-size}
-use Rattle.getdata.proofs.Written.{all-of-one, all-of-three}
+use mathlib.Core.List.{List, _∷_}
+use lib.ListN.{length, take, drop, set, length-set, length-drop}
+use lib.Seq.{length-take-le}
+use borrow.Author.Needs.{needs}
+use Rattle.model.specs.Getdata.{little-endian, compact-size}
+use Rattle.getdata.specs.Bytes.{size-one, size-three, length-little-endian, length-count}
+use Rattle.getdata.proofs.Written.{all-of-one, first-and-rest}
 use Rattle.getdata.proofs.writing.put_count.Statement.{statement}
 use Rattle.getdata.proofs.writing.put_count.Tie as tie
 
 -- how many bytes there are
-in-one : (n : ℕ) → n < 253 → length (compact-size n) ≡ 1
-unfolding compact-size
-in-one n h = rw (lt-ltb n 253 h)
-
-in-three : (n : ℕ) → 253 ≤ n → length (compact-size n) ≡ 3
-unfolding compact-size
-in-three n h = rw (le-ltb n 253 h)
+three : (n : ℕ) → 253 ≤ n → length (compact-size n) ≡ 3
+three n h = omega (arith, ap length (size-three n h), length-little-endian 2 n)
 
 cast-out : tie.Need-cast-out
 cast-out c = omega arith
 
 slice-write-out : tie.Need-slice-write-out
-slice-write-out c = omega (arith, c .before .pre .0, in-one (c .before .args .n) (omega (arith, c .if1 .taken)))
+slice-write-out c = omega (arith, c .before .before .pre, length-count (c .before .before .args .n) .0)
 
 cast-out-2 : tie.Need-cast-out-2
 cast-out-2 c = omega arith
 
 slice-write-out-2 : tie.Need-slice-write-out-2
-slice-write-out-2 c = omega (arith, c .before .pre .0, in-three (c .before .args .n) (omega (arith, c .if1 .left)))
+slice-write-out-2 c = omega (arith, c .before .before .pre, length-count (c .before .before .args .n) .0)
 
-cast-out-3 : tie.Need-cast-out-3
-cast-out-3 c = omega arith
+sub-put-little-endian : tie.Need-sub-put-little-endian
+sub-put-little-endian c = omega arith
 
-slice-write-out-3 : tie.Need-slice-write-out-3
-slice-write-out-3 c = simp length-set (omega (arith, c .before .pre .0, in-three (c .before .args .n) (omega (arith, c .if1 .left))))
+part-put-little-endian-start : tie.Need-part-put-little-endian-start
+part-put-little-endian-start c = omega arith
 
-cast-out-4 : tie.Need-cast-out-4
-cast-out-4 c = omega (arith, c .before .pre .1)
+part-put-little-endian-end : tie.Need-part-put-little-endian-end
+part-put-little-endian-end c = simp length-set (omega (arith, c .before .before .pre, three (c .before .before .args .n) (omega (arith, c .if1 .left))))
 
-slice-write-out-4 : tie.Need-slice-write-out-4
-slice-write-out-4 c = simp length-set (omega (arith, c .before .pre .0, in-three (c .before .args .n) (omega (arith, c .if1 .left))))
+put-little-endian-requires : tie.Need-put-little-endian-requires
+put-little-endian-requires c κs = search needs
 
 same-length : tie.Need-same-length
 same-length c = simp length-set
 
 returns : tie.Need-returns
-unfolding compact-size
 returns c =
-    let n = c .before .args .n in
-    let h : n < 253 = omega (arith, c .if1 .taken) in
-    rw (lt-ltb n 253 h) (all-of-one (c .before .args .out .now) n (c .before .pre .0 ∙ in-one n h))
-
-same-length-2 : tie.Need-same-length-2
-same-length-2 c = simp length-set
+    let g = c .before .before in
+    let one = size-one (g .args .n) (omega (arith, c .if1 .taken)) in
+    all-of-one (g .args .out .now) (g .args .n) (g .pre ∙ ap length one) ∙ sym one
 
 returns-2 : tie.Need-returns-2
-unfolding compact-size
 returns-2 c =
-    let n = c .before .args .n in
-    let h : 253 ≤ n = omega (arith, c .if1 .left) in
-    rw (le-ltb n 253 h) (all-of-three (c .before .args .out .now) _ _ _ (c .before .pre .0 ∙ in-three n h))
+    let call = c .before .before in
+    let g = call .before .before .before .before in
+    let n = g .args .n in
+    let h : 253 ≤ n = omega (arith, call .before .before .if1 .left) in
+    let long : length (g .args .out .now) ≡ 3 = g .pre ∙ three n h in
+    let rest = drop 1 (set (g .args .out .now) 0 253) in
+    let two : length (take 2 rest) ≡ 2 = length-take-le 2 rest (simp (length-drop, length-set) (omega (arith, long))) in
+    first-and-rest (g .args .out .now) 253 (call .put-little-endian .last .0) long
+    ∙ ap (λ (y : List ℕ). 253 ∷ y) (call .put-little-endian .ensures ∙ ap (λ (k : ℕ). little-endian k n) two)
+    ∙ sym (size-three n h)
+
+same-length-2 : tie.Need-same-length-2
+same-length-2 c = ap length (returns-2 c) ∙ sym (c .before .before .before .before .before .before .pre)
 
 pub put-count-spec : {M : Type 1} → statement M
 put-count-spec =
@@ -70,10 +73,10 @@ put-count-spec =
     slice-write-out
     cast-out-2
     slice-write-out-2
-    cast-out-3
-    slice-write-out-3
-    cast-out-4
-    slice-write-out-4
+    sub-put-little-endian
+    part-put-little-endian-start
+    part-put-little-endian-end
+    put-little-endian-requires
     same-length
     returns
     same-length-2

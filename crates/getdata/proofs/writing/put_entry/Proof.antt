@@ -1,24 +1,26 @@
 -- `getdata::writing::put_entry` meets its contract. Assumes nothing.
-use mathlib.Core.Path.{refl, _∙_}
+use mathlib.Core.Path.{ap, _∙_}
+use Prim.Native.Nat.{ℕ}
 use native.Mathlib.Omega.{arith}
-use Rattle.model.specs.Getdata.{witness-block, spelt, entry-bytes}
-use Rattle.getdata.specs.Bytes.{length-spelt}
+use lib.Seq.{length-take-le}
+use Rattle.model.specs.Getdata.{msg-witness-block, little-endian, big-endian, entry-bytes}
+use Rattle.getdata.specs.Bytes.{length-little-endian, length-big-endian}
 use Rattle.getdata.proofs.Both.{put}
 use Rattle.getdata.proofs.Written.{put-five}
 use Rattle.getdata.proofs.writing.put_entry.Statement.{statement}
 use Rattle.getdata.proofs.writing.put_entry.Tie as tie
 
-sub-put-type : tie.Need-sub-put-type
-sub-put-type c = omega arith
+sub-put-little-endian : tie.Need-sub-put-little-endian
+sub-put-little-endian c = omega arith
 
-part-put-type-start : tie.Need-part-put-type-start
-part-put-type-start c = omega arith
+part-put-little-endian-start : tie.Need-part-put-little-endian-start
+part-put-little-endian-start c = omega arith
 
-part-put-type-end : tie.Need-part-put-type-end
-part-put-type-end c = omega arith
+part-put-little-endian-end : tie.Need-part-put-little-endian-end
+part-put-little-endian-end c = omega arith
 
-put-type-requires : tie.Need-put-type-requires
-put-type-requires c κs = omega arith
+put-little-endian-requires : tie.Need-put-little-endian-requires
+put-little-endian-requires c κs = omega arith
 
 sub-put-word : tie.Need-sub-put-word
 sub-put-word c = omega arith
@@ -80,23 +82,24 @@ returns c =
     let at-a = at-b .before .before .before .before in
     let at-type = at-a .before .before .before .before in
     let g = at-type .before .before .before in
-    let t = at-type .put-type .ensures in
+    let out = g .args .out .now in
+    let t = at-type .put-little-endian .ensures ∙ ap (λ (n : ℕ). little-endian n msg-witness-block) (length-take-le 4 out (omega arith)) in
     let a = at-a .put-word .ensures in
     let b = at-b .put-word2 .ensures in
     let c′ = at-c .put-word3 .ensures in
     let d = at-d .put-word4 .ensures in
-    (λ i. put 28 8 (put 20 8 (put 12 8 (put 4 8 (put 0 4 (g .args .out .now) (t i)) (a i)) (b i)) (c′ i)) (d i))
-    ∙ put-five (g .args .out .now) witness-block (spelt 8 (g .args .a)) (spelt 8 (g .args .b)) (spelt 8 (g .args .c)) (spelt 8 (g .args .d)) (g .pre) refl
-    (length-spelt 8 (g .args .a)) (length-spelt 8 (g .args .b)) (length-spelt 8 (g .args .c))
+    (λ i. put 28 8 (put 20 8 (put 12 8 (put 4 8 (put 0 4 out (t i)) (a i)) (b i)) (c′ i)) (d i))
+    ∙ put-five out (little-endian 4 msg-witness-block) (big-endian 8 (g .args .a)) (big-endian 8 (g .args .b)) (big-endian 8 (g .args .c)) (big-endian 8 (g .args .d)) (g .pre)
+    (length-little-endian 4 msg-witness-block) (length-big-endian 8 (g .args .a)) (length-big-endian 8 (g .args .b)) (length-big-endian 8 (g .args .c))
 
 pub put-entry-spec : {M : Type 1} → statement M
 put-entry-spec =
     tie.close
     (tie.spec
-    sub-put-type
-    part-put-type-start
-    part-put-type-end
-    put-type-requires
+    sub-put-little-endian
+    part-put-little-endian-start
+    part-put-little-endian-end
+    put-little-endian-requires
     sub-put-word
     part-put-word-start
     part-put-word-end

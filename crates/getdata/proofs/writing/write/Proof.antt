@@ -7,7 +7,8 @@ use borrow.Author.Needs.{needs}
 use lib.ListN.{length, drop}
 use lib.Seq.{length-take-le}
 use Rattle.model.specs.Hash.{hashes-in}
-use Rattle.getdata.proofs.Written.{hash-count, length-count, length-payload, too-many, too-few, all-written}
+use Rattle.getdata.specs.Bytes.{length-count}
+use Rattle.getdata.proofs.Written.{hash-count, length-payload, write-too-many, write-too-few, write-whole}
 use Rattle.getdata.proofs.writing.write.Statement.{statement}
 use Rattle.getdata.proofs.writing.write.Tie as tie
 
@@ -15,10 +16,10 @@ returns : tie.Need-returns
 returns c =
     let g = c .before .before .before in
     let hs = g .args .hashes .now in
-    too-many (hashes-in hs) (g .args .out .now) (omega (arith, hash-count hs, c .if1 .taken))
+    write-too-many (hashes-in hs) (g .args .out .now) (omega (arith, hash-count hs, c .if1 .taken))
 
-count-width-requires : tie.Need-count-width-requires
-count-width-requires c κs = search needs
+compact-size-width-requires : tie.Need-compact-size-width-requires
+compact-size-width-requires c κs = search needs
 
 mul-end : tie.Need-mul-end
 mul-end c = omega (arith, c .before .if1 .left)
@@ -26,7 +27,7 @@ mul-end c = omega (arith, c .before .if1 .left)
 add-end : tie.Need-add-end
 add-end c =
     let n = length (c .before .before .before .before .args .hashes .now) / 4 in
-    omega (arith, c .before .if1 .left, c .count-width .ensures, length-count n)
+    omega (arith, c .before .if1 .left, c .compact-size-width .ensures, length-count n .1)
 
 returns-2 : tie.Need-returns-2
 returns-2 c =
@@ -34,8 +35,8 @@ returns-2 c =
     let g = call .before .before .before .before in
     let hs = g .args .hashes .now in
     let many = hash-count hs in
-    too-few (hashes-in hs) (g .args .out .now) (omega (arith, many, call .before .if1 .left))
-    (omega (arith, length-payload (hashes-in hs) (length hs / 4) (call .count-width .result) many (call .count-width .ensures), c .if2 .taken))
+    write-too-few (hashes-in hs) (g .args .out .now) (omega (arith, many, call .before .if1 .left))
+    (omega (arith, length-payload (hashes-in hs) (length hs / 4) (call .compact-size-width .result) many (call .compact-size-width .ensures), c .if2 .taken))
 
 slice-relend-prefix-put-count : tie.Need-slice-relend-prefix-put-count
 slice-relend-prefix-put-count c = omega (arith, c .if2 .left)
@@ -43,15 +44,13 @@ slice-relend-prefix-put-count c = omega (arith, c .if2 .left)
 slice-aggregate-put-count : tie.Need-slice-aggregate-put-count
 slice-aggregate-put-count c =
     let g = c .before .before .before .before .before .before in
-    sym (length-take-le (c .before .before .count-width .result) (g .args .out .now) (omega (arith, c .before .if2 .left)))
+    sym (length-take-le (c .before .before .compact-size-width .result) (g .args .out .now) (omega (arith, c .before .if2 .left)))
 
 put-count-requires : tie.Need-put-count-requires
 put-count-requires c κs =
     let g = c .before .before .before .before .before .before in
-    let width = c .before .before .count-width in (
-      length-take-le (width .result) (g .args .out .now) (omega (arith, c .before .if2 .left)) ∙ width .ensures,
-      omega (arith, c .before .before .before .if1 .left),
-    )
+    let width = c .before .before .compact-size-width in
+    length-take-le (width .result) (g .args .out .now) (omega (arith, c .before .if2 .left)) ∙ width .ensures
 
 sub-put-entries : tie.Need-sub-put-entries
 sub-put-entries c = omega arith
@@ -77,11 +76,11 @@ returns-3 c =
     let width = count .before .before .before in
     let g = width .before .before .before .before in
     let hs = g .args .hashes .now in
-    let start = width .count-width .result in
+    let start = width .compact-size-width .result in
     let n = length hs / 4 in
-    all-written (hashes-in hs) (g .args .out .now) (count .put-count .last .0) (entries .put-entries .last .0)
+    write-whole (hashes-in hs) (g .args .out .now) (count .put-count .last .0) (entries .put-entries .last .0)
     (count .put-count .last .0 ++ drop start (g .args .out .now)) n start (start + 36 * n) (start + 36 * n - start) (hash-count hs)
-    (omega (arith, width .before .if1 .left)) (width .count-width .ensures) refl (omega (arith, count .before .before .if2 .left)) refl
+    (omega (arith, width .before .if1 .left)) (width .compact-size-width .ensures) refl (omega (arith, count .before .before .if2 .left)) refl
     (count .put-count .ensures) (entries .put-entries .ensures) refl
 
 pub write-spec : {M : Type 1} → statement M
@@ -89,7 +88,7 @@ write-spec =
     tie.close
     (tie.spec
     returns
-    count-width-requires
+    compact-size-width-requires
     mul-end
     add-end
     returns-2

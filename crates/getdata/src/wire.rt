@@ -1,4 +1,4 @@
-// The sizes and numbers of a payload; Getdata.antt has their meaning.
+// The sizes and numbers of a payload on the wire; Getdata.antt has their meaning.
 
 // entries at most
 pub const MAX_GETDATA: usize = 256;
