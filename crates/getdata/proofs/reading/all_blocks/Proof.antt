@@ -19,30 +19,12 @@ abbrev μ-loop : tie.MeasureT-loop
 loop-holds : tie.Need-loop-holds Inv-loop μ-loop
 loop-holds c = (omega arith, blocks-start (c .before .args .entries .now) (c .before .args .n))
 
-mul-at : tie.Need-mul-at Inv-loop μ-loop
-mul-at c = search needs
-
-sub-is-block : tie.Need-sub-is-block Inv-loop μ-loop
-sub-is-block c = search needs
-
-part-is-block-start : tie.Need-part-is-block-start Inv-loop μ-loop
-part-is-block-start c = search needs
-
-part-is-block-end : tie.Need-part-is-block-end Inv-loop μ-loop
-part-is-block-end c = search needs
-
-is-block-requires : tie.Need-is-block-requires Inv-loop μ-loop
-is-block-requires c κs = search needs
-
 returns : tie.Need-returns Inv-loop μ-loop
 returns c =
     let a = c .before .before .before .before .before .before .args in
     let v = c .before .before .before .before .loop in
     let b = c .before .is-block in
     sym (v .inv .1 ∙ blocks-off (a .entries .now) (v .i) (a .n) (b .result) _ (rest-of (36 * v .i) (a .entries .now)) (b .ensures) (omega arith) (not-true _ (c .if1 .taken)))
-
-add-i : tie.Need-add-i Inv-loop μ-loop
-add-i c = search needs
 
 loop-less : tie.Need-loop-less Inv-loop μ-loop
 loop-less c = search needs
@@ -64,17 +46,5 @@ returns-2 c =
 pub all-blocks-spec : {M : Type 1} → statement M
 all-blocks-spec =
     tie.close
-    (tie.spec
-    Inv-loop
-    μ-loop
-    loop-holds
-    mul-at
-    sub-is-block
-    part-is-block-start
-    part-is-block-end
-    is-block-requires
-    returns
-    add-i
-    loop-less
-    loop-again
-    returns-2)
+    (tie.spec Inv-loop μ-loop loop-holds (λ c. search needs) (λ c. search needs) (λ c. search needs) (λ c. search needs) (λ c κs. search needs)
+    returns (λ c. search needs) loop-less loop-again returns-2)

@@ -5,21 +5,6 @@ use Rattle.getdata.proofs.Reader.{count-two, count-one}
 use Rattle.getdata.proofs.reading.count_of.Statement.{statement}
 use Rattle.getdata.proofs.reading.count_of.Tie as tie
 
-byte-at-requires : tie.Need-byte-at-requires
-byte-at-requires c κs = search needs
-
-byte-at-requires-2 : tie.Need-byte-at-requires-2
-byte-at-requires-2 c κs = search needs
-
-byte-at-requires-3 : tie.Need-byte-at-requires-3
-byte-at-requires-3 c κs = search needs
-
-mul-result : tie.Need-mul-result
-mul-result c = search needs
-
-add-result : tie.Need-add-result
-add-result c = search needs
-
 returns : tie.Need-returns
 returns c =
     let first = c .before .before .before .byte-at in
@@ -36,4 +21,6 @@ returns-2 c =
     (count-one (c .before .before .before .args .payload .now) (first .result) (first .ensures .0) (c .if1 .left), omega (arith, first .ensures .1))
 
 pub count-of-spec : {M : Type 1} → statement M
-count-of-spec = tie.close (tie.spec byte-at-requires byte-at-requires-2 byte-at-requires-3 mul-result add-result returns returns-2)
+count-of-spec =
+    tie.close
+    (tie.spec (λ c κs. search needs) (λ c κs. search needs) (λ c κs. search needs) (λ c. search needs) (λ c. search needs) returns returns-2)

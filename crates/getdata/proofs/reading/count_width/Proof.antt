@@ -5,9 +5,6 @@ use Rattle.getdata.proofs.Reader.{width-two, width-one}
 use Rattle.getdata.proofs.reading.count_width.Statement.{statement}
 use Rattle.getdata.proofs.reading.count_width.Tie as tie
 
-byte-at-requires : tie.Need-byte-at-requires
-byte-at-requires c κs = search needs
-
 returns : tie.Need-returns
 returns c = (width-two (c .before .before .before .args .payload .now) (c .before .byte-at .result) (c .before .byte-at .ensures .0) (c .if1 .taken), omega arith)
 
@@ -15,4 +12,6 @@ returns-2 : tie.Need-returns-2
 returns-2 c = (width-one (c .before .before .before .args .payload .now) (c .before .byte-at .result) (c .before .byte-at .ensures .0) (c .if1 .left), omega arith)
 
 pub count-width-spec : {M : Type 1} → statement M
-count-width-spec = tie.close (tie.spec byte-at-requires returns returns-2)
+count-width-spec =
+    tie.close
+    (tie.spec (λ c κs. search needs) returns returns-2)

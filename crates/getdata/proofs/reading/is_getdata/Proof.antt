@@ -8,29 +8,14 @@ use Rattle.getdata.proofs.Reader.{told-true, told-false, rest-of, not-s
 use Rattle.getdata.proofs.reading.is_getdata.Statement.{statement}
 use Rattle.getdata.proofs.reading.is_getdata.Tie as tie
 
-is-shortest-requires : tie.Need-is-shortest-requires
-is-shortest-requires c κs = search needs
-
 returns : tie.Need-returns
 returns c = not-shortest (c .before .before .before .args .payload .now) (told-false (c .before .is-shortest .ensures) (c .if1 .taken))
-
-count-of-requires : tie.Need-count-of-requires
-count-of-requires c κs = search needs
 
 returns-2 : tie.Need-returns-2
 returns-2 c =
     let n = c .before .count-of in
     let s = told-true (c .before .before .before .is-shortest .ensures) (c .before .before .if1 .left) in
     above-256 (c .before .before .before .before .before .args .payload .now) (n .result) s (n .ensures .0) (omega (arith, c .if2 .taken))
-
-count-width-requires : tie.Need-count-width-requires
-count-width-requires c κs = search needs
-
-mul-if3 : tie.Need-mul-if3
-mul-if3 c = search needs
-
-add-if3 : tie.Need-add-if3
-add-if3 c = search needs
 
 returns-3 : tie.Need-returns-3
 returns-3 c =
@@ -40,18 +25,6 @@ returns-3 c =
     let p = c .before .before .before .before .before .before .before .args .payload .now in
     not-long p (n .result) s (n .ensures .0) (w .result) (w .ensures .0)
     (λ (e : length p ≡ w .result + n .result * 36). omega (arith, e, c .if3 .taken))
-
-sub-all-blocks : tie.Need-sub-all-blocks
-sub-all-blocks c = search needs
-
-part-all-blocks-start : tie.Need-part-all-blocks-start
-part-all-blocks-start c = search needs
-
-part-all-blocks-end : tie.Need-part-all-blocks-end
-part-all-blocks-end c = search needs
-
-all-blocks-requires : tie.Need-all-blocks-requires
-all-blocks-requires c κs = search needs
 
 returns-4 : tie.Need-returns-4
 returns-4 c =
@@ -65,17 +38,5 @@ returns-4 c =
 pub is-getdata-spec : {M : Type 1} → statement M
 is-getdata-spec =
     tie.close
-    (tie.spec
-    is-shortest-requires
-    returns
-    count-of-requires
-    returns-2
-    count-width-requires
-    mul-if3
-    add-if3
-    returns-3
-    sub-all-blocks
-    part-all-blocks-start
-    part-all-blocks-end
-    all-blocks-requires
-    returns-4)
+    (tie.spec (λ c κs. search needs) returns (λ c κs. search needs) returns-2 (λ c κs. search needs) (λ c. search needs) (λ c. search needs) returns-3
+    (λ c. search needs) (λ c. search needs) (λ c. search needs) (λ c κs. search needs) returns-4)

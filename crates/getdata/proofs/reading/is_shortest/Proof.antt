@@ -4,12 +4,6 @@ use Rattle.getdata.proofs.Reader.{shortest-two, shortest-one}
 use Rattle.getdata.proofs.reading.is_shortest.Statement.{statement}
 use Rattle.getdata.proofs.reading.is_shortest.Tie as tie
 
-byte-at-requires : tie.Need-byte-at-requires
-byte-at-requires c κs = search needs
-
-count-of-requires : tie.Need-count-of-requires
-count-of-requires c κs = search needs
-
 returns : tie.Need-returns
 returns c =
     let first = c .before .before .byte-at in
@@ -21,4 +15,6 @@ returns-2 c =
     shortest-one (c .before .before .before .args .payload .now) (first .result) (first .ensures .0) (c .if1 .left)
 
 pub is-shortest-spec : {M : Type 1} → statement M
-is-shortest-spec = tie.close (tie.spec byte-at-requires count-of-requires returns returns-2)
+is-shortest-spec =
+    tie.close
+    (tie.spec (λ c κs. search needs) (λ c κs. search needs) returns returns-2)

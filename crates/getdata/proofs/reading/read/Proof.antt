@@ -10,20 +10,11 @@ use Rattle.getdata.proofs.Reader.{rest-of, told-true, told-false, answe
 use Rattle.getdata.proofs.reading.read.Statement.{statement}
 use Rattle.getdata.proofs.reading.read.Tie as tie
 
-is-getdata-requires : tie.Need-is-getdata-requires
-is-getdata-requires c κs = search needs
-
 returns : tie.Need-returns
 returns c =
     let a = c .before .before .before .before .args in
     let h = told-false (c .before .is-getdata .ensures) (c .if1 .taken) in
     (answer-11 (a .payload .now) (a .hashes .now) h, left-11 (a .payload .now) (a .hashes .now) h)
-
-count-of-requires : tie.Need-count-of-requires
-count-of-requires c κs = search needs
-
-mul-end : tie.Need-mul-end
-mul-end c = search needs
 
 returns-2 : tie.Need-returns-2
 returns-2 c =
@@ -33,9 +24,6 @@ returns-2 c =
       answer-10 (a .payload .now) (a .hashes .now) (n .result) h (n .ensures .0) (omega (arith, c .if2 .taken)),
       left-10 (a .payload .now) (a .hashes .now) (n .result) h (n .ensures .0) (omega (arith, c .if2 .taken)),
     )
-
-count-width-requires : tie.Need-count-width-requires
-count-width-requires c κs = search needs
 
 sub-read-entries : tie.Need-sub-read-entries
 sub-read-entries c =
@@ -48,12 +36,6 @@ part-read-entries-start c =
     let p = c .before .before .before .before .before .before .before .args .payload .now in
     let h = told-true (c .before .before .before .before .is-getdata .ensures) (c .before .before .before .if1 .left) in
     omega (arith, accepted-parts p h .long, c .count-width .ensures .0)
-
-part-read-entries-end : tie.Need-part-read-entries-end
-part-read-entries-end c = search needs
-
-slice-relend-prefix-read-entries : tie.Need-slice-relend-prefix-read-entries
-slice-relend-prefix-read-entries c = search needs
 
 slice-aggregate-read-entries : tie.Need-slice-aggregate-read-entries
 slice-aggregate-read-entries c =
@@ -71,9 +53,6 @@ read-entries-requires c κs =
       simp (length-take, length-drop) (omega (arith, accepted-parts p h .long, n .ensures .0, w .ensures .0)),
       length-take-le (n .result * 4) (a .hashes .now) (omega (arith, c .before .before .before .if2 .left)),
     )
-
-same-length : tie.Need-same-length
-same-length c = search needs
 
 returns-3 : tie.Need-returns-3
 returns-3 c =
@@ -93,18 +72,5 @@ returns-3 c =
 pub read-spec : {M : Type 1} → statement M
 read-spec =
     tie.close
-    (tie.spec
-    is-getdata-requires
-    returns
-    count-of-requires
-    mul-end
-    returns-2
-    count-width-requires
-    sub-read-entries
-    part-read-entries-start
-    part-read-entries-end
-    slice-relend-prefix-read-entries
-    slice-aggregate-read-entries
-    read-entries-requires
-    same-length
-    returns-3)
+    (tie.spec (λ c κs. search needs) returns (λ c κs. search needs) (λ c. search needs) returns-2 (λ c κs. search needs) sub-read-entries
+    part-read-entries-start (λ c. search needs) (λ c. search needs) slice-aggregate-read-entries read-entries-requires (λ c. search needs) returns-3)

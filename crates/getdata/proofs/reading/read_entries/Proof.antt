@@ -22,42 +22,6 @@ abbrev μ-loop : tie.MeasureT-loop
 loop-holds : tie.Need-loop-holds Inv-loop μ-loop
 loop-holds c = (omega arith, refl, words-start (c .before .before .args .entries .now) (c .before .before .args .n))
 
-mul-at : tie.Need-mul-at Inv-loop μ-loop
-mul-at c = search needs
-
-mul-w : tie.Need-mul-w Inv-loop μ-loop
-mul-w c = search needs
-
-add-end : tie.Need-add-end Inv-loop μ-loop
-add-end c = search needs
-
-sub-read-hash : tie.Need-sub-read-hash Inv-loop μ-loop
-sub-read-hash c = search needs
-
-part-read-hash-start : tie.Need-part-read-hash-start Inv-loop μ-loop
-part-read-hash-start c = search needs
-
-part-read-hash-end : tie.Need-part-read-hash-end Inv-loop μ-loop
-part-read-hash-end c = search needs
-
-mul-read-hash : tie.Need-mul-read-hash Inv-loop μ-loop
-mul-read-hash c = search needs
-
-sub-read-hash-2 : tie.Need-sub-read-hash-2 Inv-loop μ-loop
-sub-read-hash-2 c = search needs
-
-part-read-hash-start-2 : tie.Need-part-read-hash-start-2 Inv-loop μ-loop
-part-read-hash-start-2 c = search needs
-
-part-read-hash-end-2 : tie.Need-part-read-hash-end-2 Inv-loop μ-loop
-part-read-hash-end-2 c = search needs
-
-read-hash-requires : tie.Need-read-hash-requires Inv-loop μ-loop
-read-hash-requires c κs = search needs
-
-add-i : tie.Need-add-i Inv-loop μ-loop
-add-i c = search needs
-
 loop-less : tie.Need-loop-less Inv-loop μ-loop
 loop-less c = search needs
 
@@ -85,23 +49,6 @@ returns c =
 pub read-entries-spec : {M : Type 1} → statement M
 read-entries-spec =
     tie.close
-    (tie.spec
-    Inv-loop
-    μ-loop
-    loop-holds
-    mul-at
-    mul-w
-    add-end
-    sub-read-hash
-    part-read-hash-start
-    part-read-hash-end
-    mul-read-hash
-    sub-read-hash-2
-    part-read-hash-start-2
-    part-read-hash-end-2
-    read-hash-requires
-    add-i
-    loop-less
-    loop-again
-    same-length
-    returns)
+    (tie.spec Inv-loop μ-loop loop-holds (λ c. search needs) (λ c. search needs) (λ c. search needs) (λ c. search needs) (λ c. search needs)
+    (λ c. search needs) (λ c. search needs) (λ c. search needs) (λ c. search needs) (λ c. search needs) (λ c κs. search needs) (λ c. search needs)
+    loop-less loop-again same-length returns)

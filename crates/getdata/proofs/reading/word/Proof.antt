@@ -20,9 +20,6 @@ abbrev μ-loop : tie.MeasureT-loop
 loop-holds : tie.Need-loop-holds Inv-loop μ-loop
 loop-holds c = (omega arith, omega arith, refl)
 
-byte-requires : tie.Need-byte-requires Inv-loop μ-loop
-byte-requires c κs = search needs
-
 mul-x : tie.Need-mul-x Inv-loop μ-loop
 mul-x c =
     let v = c .before .before .loop in
@@ -32,9 +29,6 @@ add-x : tie.Need-add-x Inv-loop μ-loop
 add-x c =
     let v = c .before .before .loop in
     omega (arith, c .byte .ensures .1, room (v .i) (v .x) (omega arith) (v .inv .1))
-
-add-i : tie.Need-add-i Inv-loop μ-loop
-add-i c = search needs
 
 loop-less : tie.Need-loop-less Inv-loop μ-loop
 loop-less c = search needs
@@ -55,4 +49,6 @@ returns c =
     sym (v .inv .2 ∙ from-end (c .before .before .before .args .bytes .now) (v .i) (v .x) (omega arith))
 
 pub word-spec : {M : Type 1} → statement M
-word-spec = tie.close (tie.spec Inv-loop μ-loop loop-holds byte-requires mul-x add-x add-i loop-less loop-again returns)
+word-spec =
+    tie.close
+    (tie.spec Inv-loop μ-loop loop-holds (λ c κs. search needs) mul-x add-x (λ c. search needs) loop-less loop-again returns)

@@ -16,32 +16,14 @@ use Rattle.getdata.proofs.writing.put_count.Tie as tie
 three : (n : ℕ) → 253 ≤ n → length (compact-size n) ≡ 3
 three n h = omega (arith, ap length (size-three n h), length-little-endian 2 n)
 
-cast-out : tie.Need-cast-out
-cast-out c = omega arith
-
 slice-write-out : tie.Need-slice-write-out
 slice-write-out c = omega (arith, c .before .before .pre, length-count (c .before .before .args .n) .0)
-
-cast-out-2 : tie.Need-cast-out-2
-cast-out-2 c = omega arith
 
 slice-write-out-2 : tie.Need-slice-write-out-2
 slice-write-out-2 c = omega (arith, c .before .before .pre, length-count (c .before .before .args .n) .0)
 
-sub-put-little-endian : tie.Need-sub-put-little-endian
-sub-put-little-endian c = omega arith
-
-part-put-little-endian-start : tie.Need-part-put-little-endian-start
-part-put-little-endian-start c = omega arith
-
 part-put-little-endian-end : tie.Need-part-put-little-endian-end
 part-put-little-endian-end c = simp length-set (omega (arith, c .before .before .pre, three (c .before .before .args .n) (omega (arith, c .if1 .left))))
-
-put-little-endian-requires : tie.Need-put-little-endian-requires
-put-little-endian-requires c κs = search needs
-
-same-length : tie.Need-same-length
-same-length c = simp length-set
 
 returns : tie.Need-returns
 returns c =
@@ -68,16 +50,5 @@ same-length-2 c = ap length (returns-2 c) ∙ sym (c .before .before .before .be
 pub put-count-spec : {M : Type 1} → statement M
 put-count-spec =
     tie.close
-    (tie.spec
-    cast-out
-    slice-write-out
-    cast-out-2
-    slice-write-out-2
-    sub-put-little-endian
-    part-put-little-endian-start
-    part-put-little-endian-end
-    put-little-endian-requires
-    same-length
-    returns
-    same-length-2
-    returns-2)
+    (tie.spec (λ c. omega arith) slice-write-out (λ c. omega arith) slice-write-out-2 (λ c. omega arith) (λ c. omega arith) part-put-little-endian-end
+    (λ c κs. search needs) (λ c. simp length-set) returns same-length-2 returns-2)

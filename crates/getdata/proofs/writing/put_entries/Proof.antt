@@ -25,63 +25,6 @@ abbrev μ-loop : tie.MeasureT-loop
 loop-holds : tie.Need-loop-holds Inv-loop μ-loop
 loop-holds c = let g = c .before .before in (omega arith, (long₀ (g .args .out .now) (g .args .hashes .now) (g .pre), refl))
 
-mul-at : tie.Need-mul-at Inv-loop μ-loop
-mul-at c = omega arith
-
-add-end : tie.Need-add-end Inv-loop μ-loop
-add-end c = omega arith
-
-mul-w : tie.Need-mul-w Inv-loop μ-loop
-mul-w c = omega arith
-
-sub-put-entry : tie.Need-sub-put-entry Inv-loop μ-loop
-sub-put-entry c = omega arith
-
-part-put-entry-start : tie.Need-part-put-entry-start Inv-loop μ-loop
-part-put-entry-start c = omega arith
-
-part-put-entry-end : tie.Need-part-put-entry-end Inv-loop μ-loop
-part-put-entry-end c = omega arith
-
-mul-put-entry : tie.Need-mul-put-entry Inv-loop μ-loop
-mul-put-entry c = omega arith
-
-shared-slice-read-put-entry : tie.Need-shared-slice-read-put-entry Inv-loop μ-loop
-shared-slice-read-put-entry c = omega arith
-
-add-put-entry : tie.Need-add-put-entry Inv-loop μ-loop
-add-put-entry c = omega arith
-
-mul-put-entry-2 : tie.Need-mul-put-entry-2 Inv-loop μ-loop
-mul-put-entry-2 c = omega arith
-
-shared-slice-read-put-entry-2 : tie.Need-shared-slice-read-put-entry-2 Inv-loop μ-loop
-shared-slice-read-put-entry-2 c = omega arith
-
-add-put-entry-2 : tie.Need-add-put-entry-2 Inv-loop μ-loop
-add-put-entry-2 c = omega arith
-
-mul-put-entry-3 : tie.Need-mul-put-entry-3 Inv-loop μ-loop
-mul-put-entry-3 c = omega arith
-
-shared-slice-read-put-entry-3 : tie.Need-shared-slice-read-put-entry-3 Inv-loop μ-loop
-shared-slice-read-put-entry-3 c = omega arith
-
-add-put-entry-3 : tie.Need-add-put-entry-3 Inv-loop μ-loop
-add-put-entry-3 c = omega arith
-
-mul-put-entry-4 : tie.Need-mul-put-entry-4 Inv-loop μ-loop
-mul-put-entry-4 c = omega arith
-
-shared-slice-read-put-entry-4 : tie.Need-shared-slice-read-put-entry-4 Inv-loop μ-loop
-shared-slice-read-put-entry-4 c = omega arith
-
-put-entry-requires : tie.Need-put-entry-requires Inv-loop μ-loop
-put-entry-requires c κs = search needs
-
-add-i : tie.Need-add-i Inv-loop μ-loop
-add-i c = omega arith
-
 loop-less : tie.Need-loop-less Inv-loop μ-loop
 loop-less c = omega arith
 
@@ -106,30 +49,7 @@ returns c =
 pub put-entries-spec : {M : Type 1} → statement M
 put-entries-spec =
     tie.close
-    (tie.spec
-    Inv-loop
-    μ-loop
-    loop-holds
-    mul-at
-    add-end
-    mul-w
-    sub-put-entry
-    part-put-entry-start
-    part-put-entry-end
-    mul-put-entry
-    shared-slice-read-put-entry
-    add-put-entry
-    mul-put-entry-2
-    shared-slice-read-put-entry-2
-    add-put-entry-2
-    mul-put-entry-3
-    shared-slice-read-put-entry-3
-    add-put-entry-3
-    mul-put-entry-4
-    shared-slice-read-put-entry-4
-    put-entry-requires
-    add-i
-    loop-less
-    loop-again
-    same-length
-    returns)
+    (tie.spec Inv-loop μ-loop loop-holds (λ c. omega arith) (λ c. omega arith) (λ c. omega arith) (λ c. omega arith) (λ c. omega arith)
+    (λ c. omega arith) (λ c. omega arith) (λ c. omega arith) (λ c. omega arith) (λ c. omega arith) (λ c. omega arith) (λ c. omega arith)
+    (λ c. omega arith) (λ c. omega arith) (λ c. omega arith) (λ c. omega arith) (λ c. omega arith) (λ c κs. search needs) (λ c. omega arith) loop-less
+    loop-again same-length returns)

@@ -20,15 +20,6 @@ abbrev μ-loop : tie.MeasureT-loop
 loop-holds : tie.Need-loop-holds Inv-loop μ-loop
 loop-holds c = (omega arith, (refl, store-start (length (c .args .out .now)) (c .args .number)))
 
-cast-out : tie.Need-cast-out Inv-loop μ-loop
-cast-out c = omega arith
-
-slice-write-out : tie.Need-slice-write-out Inv-loop μ-loop
-slice-write-out c = omega arith
-
-add-i : tie.Need-add-i Inv-loop μ-loop
-add-i c = omega arith
-
 loop-less : tie.Need-loop-less Inv-loop μ-loop
 loop-less c = omega arith
 
@@ -48,4 +39,6 @@ returns c =
     sym (v .inv .1 .1 ∙ store-end n (v .i) (v .rest) (v .out) (omega arith) (v .inv .1 .0))
 
 pub put-little-endian-spec : {M : Type 1} → statement M
-put-little-endian-spec = tie.close (tie.spec Inv-loop μ-loop loop-holds cast-out slice-write-out add-i loop-less loop-again same-length returns)
+put-little-endian-spec =
+    tie.close
+    (tie.spec Inv-loop μ-loop loop-holds (λ c. omega arith) (λ c. omega arith) (λ c. omega arith) loop-less loop-again same-length returns)

@@ -6,19 +6,12 @@ use Rattle.model.specs.Getdata.{little-endian}
 use Rattle.getdata.proofs.writing.put_word.Statement.{statement}
 use Rattle.getdata.proofs.writing.put_word.Tie as tie
 
-swap-bytes-requires : tie.Need-swap-bytes-requires
-swap-bytes-requires c κs = search needs
-
-put-little-endian-requires : tie.Need-put-little-endian-requires
-put-little-endian-requires c κs = search needs
-
-same-length : tie.Need-same-length
-same-length c = search needs
-
 returns : tie.Need-returns
 returns c =
     let swap = c .before .before .before .before in
     c .before .before .put-little-endian .ensures ∙ ap (λ (n : ℕ). little-endian n (swap .swap-bytes .result)) (swap .before .before .pre) ∙ swap .swap-bytes .ensures
 
 pub put-word-spec : {M : Type 1} → statement M
-put-word-spec = tie.close (tie.spec swap-bytes-requires put-little-endian-requires same-length returns)
+put-word-spec =
+    tie.close
+    (tie.spec (λ c κs. search needs) (λ c κs. search needs) (λ c. search needs) returns)

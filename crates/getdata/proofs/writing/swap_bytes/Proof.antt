@@ -27,9 +27,6 @@ mul-r c = let v = c .before .loop in omega (arith, room (v .i) (v .r) (omega ari
 add-r : tie.Need-add-r Inv-loop μ-loop
 add-r c = let v = c .before .loop in omega (arith, room (v .i) (v .r) (omega arith) (v .inv .1 .0))
 
-add-i : tie.Need-add-i Inv-loop μ-loop
-add-i c = omega arith
-
 loop-less : tie.Need-loop-less Inv-loop μ-loop
 loop-less c = omega arith
 
@@ -53,4 +50,6 @@ returns c =
     sym (v .inv .1 .1 ∙ ap (λ (n : ℕ). big-endian (8 - n) (v .rest) ++ little-endian n (v .r)) all)
 
 pub swap-bytes-spec : {M : Type 1} → statement M
-swap-bytes-spec = tie.close (tie.spec Inv-loop μ-loop loop-holds mul-r add-r add-i loop-less loop-again returns)
+swap-bytes-spec =
+    tie.close
+    (tie.spec Inv-loop μ-loop loop-holds mul-r add-r (λ c. omega arith) loop-less loop-again returns)

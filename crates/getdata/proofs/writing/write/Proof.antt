@@ -18,9 +18,6 @@ returns c =
     let hs = g .args .hashes .now in
     write-too-many (hashes-in hs) (g .args .out .now) (omega (arith, hash-count hs, c .if1 .taken))
 
-compact-size-width-requires : tie.Need-compact-size-width-requires
-compact-size-width-requires c κs = search needs
-
 mul-end : tie.Need-mul-end
 mul-end c = omega (arith, c .before .if1 .left)
 
@@ -52,22 +49,10 @@ put-count-requires c κs =
     let width = c .before .before .compact-size-width in
     length-take-le (width .result) (g .args .out .now) (omega (arith, c .before .if2 .left)) ∙ width .ensures
 
-sub-put-entries : tie.Need-sub-put-entries
-sub-put-entries c = omega arith
-
-part-put-entries-start : tie.Need-part-put-entries-start
-part-put-entries-start c = omega arith
-
-part-put-entries-end : tie.Need-part-put-entries-end
-part-put-entries-end c = search needs
-
 put-entries-requires : tie.Need-put-entries-requires
 put-entries-requires c κs =
     let hs = c .before .before .before .before .before .before .before .before .before .before .args .hashes .now in
     omega (arith, c .put-entries-arg .given, hash-count hs)
-
-same-length : tie.Need-same-length
-same-length c = search needs
 
 returns-3 : tie.Need-returns-3
 returns-3 c =
@@ -86,18 +71,5 @@ returns-3 c =
 pub write-spec : {M : Type 1} → statement M
 write-spec =
     tie.close
-    (tie.spec
-    returns
-    compact-size-width-requires
-    mul-end
-    add-end
-    returns-2
-    slice-relend-prefix-put-count
-    slice-aggregate-put-count
-    put-count-requires
-    sub-put-entries
-    part-put-entries-start
-    part-put-entries-end
-    put-entries-requires
-    same-length
-    returns-3)
+    (tie.spec returns (λ c κs. search needs) mul-end add-end returns-2 slice-relend-prefix-put-count slice-aggregate-put-count put-count-requires
+    (λ c. omega arith) (λ c. omega arith) (λ c. search needs) put-entries-requires (λ c. search needs) returns-3)
