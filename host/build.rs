@@ -20,7 +20,7 @@ fn main() -> Result<(), String> {
     let declared = fs::read_to_string(here.join("src/ffi.rs")).map_err(|error| error.to_string())?;
     let missing = missing(&bytes, &declared);
     if !missing.is_empty() {
-        return Err(format!("{} is of another ABI: it has not: {}", archive.display(), missing.join(", ")));
+        return Err(format!("{} is of another ABI or older: it has not: {}", archive.display(), missing.join(", ")));
     }
     println!("cargo::rustc-link-search=native={}", folder.display());
     println!("cargo::rustc-link-lib=static=kofudile");

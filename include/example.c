@@ -1,5 +1,6 @@
 /*
- * A small host: opens a window, asks two peers for blocks, takes deliveries, sees a refusal, sweeps what was never sent. From the repository's root:
+ * A small host: opens a window, asks two peers for blocks, reads a message as the peer does, takes deliveries, sees refusals, sweeps what was never sent.
+ * From the repository's root:
  *
  *   mkdir -p target && cc -O2 -Iinclude include/example.c -Ldist -lkofudile -o target/example && target/example
  *
@@ -18,12 +19,41 @@
 static uint64_t words[KOFUDILE_WORDS];
 static kofudile_release report[KOFUDILE_PLACES];
 
+/* The payload of the last getdata message. */
+static uint8_t payload[KOFUDILE_GETDATA_BYTES];
+static size_t payload_len;
+
 /* A made-up hash for the block at a height. */
 static kofudile_hash block(uint32_t height) {
     uint8_t bytes[32] = {0};
     bytes[0] = (uint8_t)(height * 37);
     bytes[31] = (uint8_t)height;
     return kofudile_hash_of(bytes);
+}
+
+static void must(uint64_t refused) {
+    if (refused != 0) {
+        printf("refused: %s\n", kofudile_refusal_text(refused));
+        exit(1);
+    }
+}
+
+/* The message that asks for these blocks. */
+static void write_message(const kofudile_hash *hashes, size_t count) {
+    kofudile_number written = kofudile_write_getdata(hashes, count, payload, sizeof payload);
+    must(written.refused);
+    payload_len = (size_t)written.value;
+    printf("  its getdata has %zu bytes\n", payload_len);
+}
+
+/* What a peer does with a message; any bytes may come. */
+static void read_message(size_t length) {
+    static kofudile_hash hashes[KOFUDILE_GETDATA_HASHES];
+    kofudile_number read = kofudile_read_getdata(payload, length, hashes, KOFUDILE_GETDATA_HASHES);
+    if (read.refused == 0)
+        printf("a getdata of %zu bytes asks for %" PRIu64 " blocks\n", length, read.value);
+    else
+        printf("a getdata of %zu bytes: %s\n", length, kofudile_refusal_text(read.refused));
 }
 
 /* Requests blocks first .. first + count - 1 of a peer; answers the refusal. */
@@ -36,10 +66,11 @@ static uint64_t request(uint64_t seat, uint32_t first, uint32_t count, uint64_t 
     }
     kofudile_number said =
         kofudile_mark_requested(words, KOFUDILE_WORDS, seat, hashes, heights, count, first + count, NO_LIMIT, NO_LIMIT, clock);
-    if (said.refused == 0)
-        printf("asked seat %" PRIu64 " for blocks %" PRIu32 " to %" PRIu32 "; room for more: %s\n", seat, first, first + count - 1,
-            said.value ? "yes" : "no");
-    return said.refused;
+    if (said.refused != 0) return said.refused;
+    printf("asked seat %" PRIu64 " for blocks %" PRIu32 " to %" PRIu32 "; room for more: %s\n", seat, first, first + count - 1,
+        said.value ? "yes" : "no");
+    write_message(hashes, count);
+    return 0;
 }
 
 static void show(const char *what, uint64_t places) {
@@ -53,13 +84,6 @@ static void status(void) {
         kofudile_pending_bytes(words, KOFUDILE_WORDS).value, kofudile_request_cursor(words, KOFUDILE_WORDS).value);
 }
 
-static void must(uint64_t refused) {
-    if (refused != 0) {
-        printf("refused: %s\n", kofudile_refusal_text(refused));
-        exit(1);
-    }
-}
-
 int main(void) {
     uint64_t keys[KOFUDILE_SEATS];
     for (uint64_t seat = 0; seat < KOFUDILE_SEATS; seat++) keys[seat] = seat;
@@ -69,6 +93,8 @@ int main(void) {
     must(kofudile_open(words, KOFUDILE_WORDS, settings, keys, KOFUDILE_SEATS, 0));
     must(request(3, 1, 4, 1 * SECOND));
     must(request(7, 5, 2, 1 * SECOND));
+    read_message(payload_len);
+    read_message(payload_len - 1);
     status();
     printf("block 4 again: %s\n", kofudile_refusal_text(request(7, 4, 3, 2 * SECOND)));
 

@@ -14,10 +14,13 @@
  *            count as a window are taken for one. docs/LAYOUT.md says what each word means.
  *   report   where a call that lets entries go writes them: 256 or more of kofudile_release. The answer's `places` says how many were written, from the
  *            first place on; places after them are as they were. Lent for the one call.
- *   lists    hashes, heights, keys, flags, alternates: read during the call only.
+ *   lists    hashes, heights, keys, flags, alternates, a payload: read during the call only.
+ *   out      where a payload is written; `hashes` where one is read. The answer says how many bytes or hashes were written, from the first on; what is after
+ *            them is as it was. Lent for the one call.
  * A list is a pointer and then its length, counted in elements. The library trusts the host in this alone:
- *   - a pointer is not null, and that many elements may be read (written: words, report). It is aligned as its type is: to 8 bytes, heights to 4. In
- *     kofudile_mark_requested and kofudile_confirm_prefix_probe the pointer of a list of length 0 is not looked at, and may be null;
+ *   - a pointer is not null, and that many elements may be read (written: words, report, out, the hashes of a payload that is read). It is aligned as its type
+ *     is: to 8 bytes, heights to 4, a payload's bytes not at all. In kofudile_mark_requested, kofudile_confirm_prefix_probe, kofudile_write_getdata and
+ *     kofudile_read_getdata the pointer of a list of length 0 is not looked at, and may be null;
  *   - what is lent for writing overlaps no other argument, and no other thread touches it during the call. Several threads may query one window;
  *   - nobody else writes what is lent during the call, another process or a device neither: the words are checked when a call begins and relied on until
  *     it ends. A window in shared memory needs a lock that all its writers take;
@@ -46,7 +49,7 @@
  *   seat     0 to 255: the host's number for a connection. Key: 0 to 255, one for each seat, for the address behind it; cooling goes by key.
  *   clock    nanoseconds from any start that the host chooses, at most 2^62, never going back between accepted calls (a query's moves nothing). Durations are nanoseconds.
  *   hash     32 bytes as four words, in the order in which they come on the wire (inv, getdata, headers): the first byte is the highest of word a, the
- *            last the lowest of word d: kofudile_hash_of. Explorers and node consoles show the bytes in reverse: the first byte on the wire is the last
+ *            last the lowest of word d: kofudile_hash_of, kofudile_hash_bytes. Explorers and node consoles show the bytes in reverse: the first byte on the wire is the last
  *            pair of digits shown. "By rising hash" is by the bytes on the wire, from the first.
  *   entry    a block asked for: hash, owner seat, time of the request, height, estimate of its bytes.
  *   frontier the height from which the host looks for blocks to request next (kofudile_request_cursor).
@@ -55,9 +58,9 @@
  *   A value that may be missing is `has_x` and then `x`; where `has_x` is false, `x` is not read.
  *
  * ANSWERS
- *   An answer begins with `refused`: 0, or one of the nine numbers below, and then every other field is 0. A call that answers a plain uint64_t
- *   answers that number. A refused call changes nothing: words and report are as they were. Of several causes the lowest number is answered.
- *   The comment `refused by ..` of a call lists all that it can answer.
+ *   An answer begins with `refused`: 0, or one of the numbers 1 to 11 below, and then every other field is 0. A call that answers a plain uint64_t
+ *   answers that number. A refused call changes nothing: words, report and what else is lent are as they were. Of several causes the lowest number is
+ *   answered, but where a payload is read 11 before 10. The comment `refused by ..` of a call lists all that it can answer.
  */
 #ifndef KOFUDILE_H
 #define KOFUDILE_H
@@ -71,7 +74,7 @@ extern "C" {
 #endif
 
 #define KOFUDILE_VERSION_MAJOR 0
-#define KOFUDILE_VERSION_MINOR 1
+#define KOFUDILE_VERSION_MINOR 2
 #define KOFUDILE_VERSION_PATCH 0
 #define KOFUDILE_ABI 1 /* another number for any change of a struct or of a function's arguments, answer or name */
 
@@ -79,15 +82,19 @@ extern "C" {
 #define KOFUDILE_PLACES 256                  /* least length of `report`, and most entries pending */
 #define KOFUDILE_SEATS 256                   /* length of `keys` and `flags` */
 #define KOFUDILE_HASH_WORDS 4                /* words of a hash */
+#define KOFUDILE_GETDATA_HASHES 256          /* most hashes of a getdata payload */
+#define KOFUDILE_GETDATA_BYTES 9219          /* length of the longest: 3 bytes for the count, 36 for each of 256 hashes */
 #define KOFUDILE_SECOND UINT64_C(1000000000) /* nanoseconds */
 
-/* No pointer is null, and the answer is looked at; of functions over lists the first pointer alone, since an empty list has none. */
+/* No pointer is null, and the answer is looked at; of functions over lists the first pointer alone, since an empty list has none; where all are lists, none. */
 #if defined(__GNUC__)
 #define KOFUDILE_API __attribute__((nonnull, warn_unused_result))
 #define KOFUDILE_LIST_API __attribute__((nonnull(1), warn_unused_result))
+#define KOFUDILE_LISTS_API __attribute__((warn_unused_result))
 #else
 #define KOFUDILE_API
 #define KOFUDILE_LIST_API
+#define KOFUDILE_LISTS_API
 #endif
 
 /* Kept by compiler and linker, though nothing reads it. */
@@ -120,9 +127,13 @@ enum {
     KOFUDILE_REFUSED_PEER = 6, /* a seat or key above 255, not 256 keys or flags, more than 256 alternates */
     /* Whoever builds a request. */
     KOFUDILE_REFUSED_DUPLICATE = 7, /* a hash of the request is pending already, or is listed twice */
-    KOFUDILE_REFUSED_TOO_MANY = 8,  /* pending and listed entries together are more than 256 */
+    KOFUDILE_REFUSED_TOO_MANY = 8,  /* pending and listed entries together are more than 256, or so many hashes are to be written as one getdata */
     /* A peer. */
-    KOFUDILE_REFUSED_BODY_SIZE = 9 /* a body above 4,294,967,295 bytes */
+    KOFUDILE_REFUSED_BODY_SIZE = 9, /* a body above 4,294,967,295 bytes */
+    /* The host, by memory it lends. */
+    KOFUDILE_REFUSED_SHORT_OUTPUT = 10, /* what is lent to be written is too short for what would be written */
+    /* A peer. */
+    KOFUDILE_REFUSED_PAYLOAD = 11 /* the bytes are no getdata payload for at most 256 witness blocks: a type, the length, the count or its form is another */
 };
 
 /* Why an entry went. All but DELIVERED, RELEASED and RETIRED lower the frontier to the entry's height. */
@@ -254,6 +265,27 @@ KOFUDILE_API kofudile_number kofudile_mark_requested_words(uint64_t *words, size
  */
 KOFUDILE_API kofudile_number kofudile_mark_owned_fetch(uint64_t *words, size_t words_len, uint64_t owner, kofudile_hash hash, uint32_t height, bool is_staged,
     uint64_t byte_headroom, uint64_t count_headroom, uint64_t clock);
+
+/* ---- getdata's payload: needs no window, and changes none ---- */
+
+/*
+ * Writes the payload of the getdata message that asks for `count` blocks, which may be none: the count as CompactSize in its shortest form; then for each
+ * hash the type 0x40000002 (BIP 144's witness block) in four bytes, the low one first, and the hash's 32 bytes. value: how many bytes of out were written.
+ * KOFUDILE_GETDATA_BYTES are enough for any. What was sent is marked by kofudile_mark_requested. refused by 8, 10
+ */
+KOFUDILE_LISTS_API static inline kofudile_number kofudile_write_getdata(const kofudile_hash *hashes, size_t count, uint8_t *out, size_t out_len);
+
+/* The same of hashes as plain words, four each: hash_words_len is FOUR TIMES the number of hashes; what is past the last whole hash is not read. */
+KOFUDILE_API kofudile_number kofudile_write_getdata_words(const uint64_t *hash_words, size_t hash_words_len, uint8_t *out, size_t out_len);
+
+/*
+ * Reads such a payload; it may come from a stranger, and any bytes may be handed in. Exactly what kofudile_write_getdata writes is accepted. value: how
+ * many hashes were written, to the first of `count` places. KOFUDILE_GETDATA_HASHES are enough for any. refused by 10, 11; 11 goes first
+ */
+KOFUDILE_LISTS_API static inline kofudile_number kofudile_read_getdata(const uint8_t *payload, size_t payload_len, kofudile_hash *hashes, size_t count);
+
+/* The same into plain words, four a hash: hash_words_len is FOUR TIMES the number of places; value counts hashes. */
+KOFUDILE_API kofudile_number kofudile_read_getdata_words(const uint8_t *payload, size_t payload_len, uint64_t *hash_words, size_t hash_words_len);
 
 /* ---- Deliveries ---- */
 
@@ -409,6 +441,23 @@ KOFUDILE_LIST_API static inline uint64_t kofudile_confirm_prefix_probe(uint64_t 
         alternates_len ? alternates : &no_word, alternates_len, clock);
 }
 
+/* The words of so many hashes; one hash too many says as much as any larger number, which four times might not hold. */
+static inline size_t kofudile_getdata_words(size_t count) {
+    return KOFUDILE_HASH_WORDS * (count > KOFUDILE_GETDATA_HASHES ? KOFUDILE_GETDATA_HASHES + 1 : count);
+}
+
+KOFUDILE_LISTS_API static inline kofudile_number kofudile_write_getdata(const kofudile_hash *hashes, size_t count, uint8_t *out, size_t out_len) {
+    const uint64_t no_word = 0;
+    uint8_t no_byte = 0;
+    return kofudile_write_getdata_words(count ? &hashes->a : &no_word, kofudile_getdata_words(count), out_len ? out : &no_byte, out_len);
+}
+
+KOFUDILE_LISTS_API static inline kofudile_number kofudile_read_getdata(const uint8_t *payload, size_t payload_len, kofudile_hash *hashes, size_t count) {
+    const uint8_t no_byte = 0;
+    uint64_t no_word = 0;
+    return kofudile_read_getdata_words(payload_len ? payload : &no_byte, payload_len, count ? &hashes->a : &no_word, kofudile_getdata_words(count));
+}
+
 static inline uint64_t kofudile_word_of(const uint8_t *bytes) {
     uint64_t word = 0;
     for (int i = 0; i < 8; i++) word = word << 8 | bytes[i];
@@ -423,6 +472,18 @@ static inline kofudile_hash kofudile_hash_of(const uint8_t *bytes) {
     hash.c = kofudile_word_of(bytes + 16);
     hash.d = kofudile_word_of(bytes + 24);
     return hash;
+}
+
+static inline void kofudile_bytes_of(uint64_t word, uint8_t *bytes) {
+    for (int i = 7; i >= 0; i--, word >>= 8) bytes[i] = (uint8_t)(word & 255);
+}
+
+/* A hash as its 32 bytes, as they go on the wire. */
+static inline void kofudile_hash_bytes(kofudile_hash hash, uint8_t *bytes) {
+    kofudile_bytes_of(hash.a, bytes);
+    kofudile_bytes_of(hash.b, bytes + 8);
+    kofudile_bytes_of(hash.c, bytes + 16);
+    kofudile_bytes_of(hash.d, bytes + 24);
 }
 
 /* The original's budget of this name. block_spacing: the network's time between blocks, 600 * KOFUDILE_SECOND for Bitcoin. */
@@ -462,8 +523,10 @@ static inline const char *kofudile_refusal_text(uint64_t refused) {
     case KOFUDILE_REFUSED_SETTINGS: return "a setting is out of range";
     case KOFUDILE_REFUSED_PEER: return "a seat or key is above 255, or a list of them has the wrong length";
     case KOFUDILE_REFUSED_DUPLICATE: return "a hash of the request is pending already or listed twice";
-    case KOFUDILE_REFUSED_TOO_MANY: return "more than 256 entries would be pending";
+    case KOFUDILE_REFUSED_TOO_MANY: return "more than 256 entries would be pending, or are listed for one getdata";
     case KOFUDILE_REFUSED_BODY_SIZE: return "the body is above 4294967295 bytes";
+    case KOFUDILE_REFUSED_SHORT_OUTPUT: return "the output lent is too short for what would be written";
+    case KOFUDILE_REFUSED_PAYLOAD: return "the bytes are no getdata payload for at most 256 witness blocks";
     default: return "not a refusal of this library";
     }
 }

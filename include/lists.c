@@ -1,7 +1,7 @@
 /*
  * The header's own functions: lists of hashes pass four words for each hash, and an empty one's null pointer is not handed on; a won race, the deepest
- * call; the original's budgets; the order of a hash's bytes; the texts of refusals. And what the header says of clocks and seats. Ends with 0, or prints
- * a line that fails.
+ * call; the original's budgets; the order of a hash's bytes; getdata's payload; the texts of refusals. And what the header says of clocks and seats. Ends with
+ * 0, or prints a line that fails.
  */
 #include <stdio.h>
 #include <string.h>
@@ -45,10 +45,61 @@ static int bytes_and_texts(void) {
     kofudile_hash hash = kofudile_hash_of(bytes);
     HOLDS(hash.a == UINT64_C(0x0102030405060708) && hash.b == UINT64_C(0x090a0b0c0d0e0f10));
     HOLDS(hash.c == UINT64_C(0x1112131415161718) && hash.d == UINT64_C(0x191a1b1c1d1e1f20));
-    for (uint64_t i = 0; i <= KOFUDILE_REFUSED_BODY_SIZE; i++)
-        for (uint64_t j = i + 1; j <= KOFUDILE_REFUSED_BODY_SIZE + 1; j++) HOLDS(strcmp(kofudile_refusal_text(i), kofudile_refusal_text(j)) != 0);
-    HOLDS(strcmp(kofudile_refusal_text(KOFUDILE_REFUSED_BODY_SIZE + 1), kofudile_refusal_text(UINT64_MAX)) == 0);
+    uint8_t again[33];
+    memset(again, 9, sizeof again);
+    kofudile_hash_bytes(hash, again);
+    HOLDS(memcmp(again, bytes, sizeof bytes) == 0 && again[32] == 9);
+    for (uint64_t i = 0; i <= KOFUDILE_REFUSED_PAYLOAD; i++)
+        for (uint64_t j = i + 1; j <= KOFUDILE_REFUSED_PAYLOAD + 1; j++) HOLDS(strcmp(kofudile_refusal_text(i), kofudile_refusal_text(j)) != 0);
+    HOLDS(strcmp(kofudile_refusal_text(KOFUDILE_REFUSED_PAYLOAD + 1), kofudile_refusal_text(UINT64_MAX)) == 0);
     HOLDS(kofudile_abi_1() == KOFUDILE_ABI);
+    return 0;
+}
+
+static kofudile_hash listed[KOFUDILE_GETDATA_HASHES + 1];
+static kofudile_hash named[KOFUDILE_GETDATA_HASHES];
+static uint8_t payload[KOFUDILE_GETDATA_BYTES + 1];
+
+/* A payload of one hash, byte for byte; the byte and the place after what is written stay. */
+static int one_entry(void) {
+    const uint8_t entry[5] = {1, 2, 0, 0, 64};
+    kofudile_hash places[2] = {{0, 0, 0, 0}, {5, 6, 7, 8}};
+    listed[0].a = UINT64_C(0x0102030405060708);
+    listed[0].d = UINT64_C(0x191a1b1c1d1e1f20);
+    memset(payload, 9, sizeof payload);
+    HOLDS(kofudile_write_getdata(listed, 1, payload, 36).refused == KOFUDILE_REFUSED_SHORT_OUTPUT && payload[0] == 9);
+    HOLDS(kofudile_write_getdata(listed, 1, payload, sizeof payload).value == 37 && payload[37] == 9);
+    HOLDS(memcmp(payload, entry, 5) == 0 && payload[5] == 0x01 && payload[12] == 0x08 && payload[36] == 0x20);
+    HOLDS(kofudile_read_getdata(payload, 37, places, 2).value == 1);
+    HOLDS(memcmp(places, listed, sizeof places[0]) == 0 && places[1].a == 5 && places[1].d == 8);
+    HOLDS(kofudile_hash_of(payload + 5).a == places[0].a);
+    return 0;
+}
+
+/* 252 hashes are counted in one byte, 253 in three; 256 are the most. */
+static int counts(void) {
+    for (uint64_t i = 0; i <= KOFUDILE_GETDATA_HASHES; i++) listed[i].a = i;
+    HOLDS(kofudile_write_getdata(listed, 252, payload, sizeof payload).value == 1 + 36 * 252 && payload[0] == 252);
+    HOLDS(kofudile_write_getdata(listed, 253, payload, sizeof payload).value == 3 + 36 * 253 && payload[0] == 253 && payload[1] == 253);
+    HOLDS(kofudile_write_getdata(listed, 256, payload, KOFUDILE_GETDATA_BYTES - 1).refused == KOFUDILE_REFUSED_SHORT_OUTPUT);
+    HOLDS(kofudile_write_getdata(listed, 256, payload, KOFUDILE_GETDATA_BYTES).value == KOFUDILE_GETDATA_BYTES);
+    HOLDS(payload[0] == 253 && payload[1] == 0 && payload[2] == 1);
+    HOLDS(kofudile_read_getdata(payload, KOFUDILE_GETDATA_BYTES, named, 255).refused == KOFUDILE_REFUSED_SHORT_OUTPUT && named[0].d == 0);
+    HOLDS(kofudile_read_getdata(payload, KOFUDILE_GETDATA_BYTES, named, 256).value == 256);
+    HOLDS(memcmp(named, listed, sizeof named) == 0);
+    HOLDS(kofudile_read_getdata(payload, KOFUDILE_GETDATA_BYTES + 1, named, 0).refused == KOFUDILE_REFUSED_PAYLOAD);
+    HOLDS(kofudile_write_getdata(listed, 257, NULL, 0).refused == KOFUDILE_REFUSED_TOO_MANY);
+    HOLDS(kofudile_write_getdata(listed, SIZE_MAX / KOFUDILE_HASH_WORDS + 1, payload, sizeof payload).refused == KOFUDILE_REFUSED_TOO_MANY);
+    return 0;
+}
+
+/* Empty lists without a pointer: a payload of no hash, room for none, and no payload at all. */
+static int empty_payloads(void) {
+    HOLDS(kofudile_write_getdata(NULL, 0, NULL, 0).refused == KOFUDILE_REFUSED_SHORT_OUTPUT);
+    HOLDS(kofudile_write_getdata(NULL, 0, payload, 1).value == 1 && payload[0] == 0);
+    kofudile_number none = kofudile_read_getdata(payload, 1, NULL, 0);
+    HOLDS(none.refused == 0 && none.value == 0);
+    HOLDS(kofudile_read_getdata(NULL, 0, NULL, 0).refused == KOFUDILE_REFUSED_PAYLOAD);
     return 0;
 }
 
@@ -122,5 +173,5 @@ int main(void) {
         body = kofudile_mark_received_from(words, KOFUDILE_WORDS, report, KOFUDILE_PLACES, hashes[i], 80, true, alternate, 0);
     HOLDS(body.refused == 0 && body.places == 2);
     HOLDS(report[0].reason == KOFUDILE_REASON_DELIVERED && report[1].reason == KOFUDILE_REASON_PREFIX_RACE_LOST);
-    return budgets(keys) || bytes_and_texts() || reused_seat(keys) || far_clock(keys);
+    return budgets(keys) || bytes_and_texts() || one_entry() || counts() || empty_payloads() || reused_seat(keys) || far_clock(keys);
 }

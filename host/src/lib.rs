@@ -2,6 +2,7 @@
 //!
 //! [`DownloadWindow`] has the methods of the pending side of `DownloadWindow` of gosuda/bitcoin-rs, by the same names, over a library whose
 //! every function is proved to do what its definition says. README.md in this folder says, method by method, how a host of the original changes over.
+//! [`write_request`] and [`read_getdata`] are the message that a request is sent by.
 //!
 //! ```
 //! use kofudile::{DownloadWindow, Hash256, Headroom, default_sync_budget};
@@ -27,10 +28,12 @@ compile_error!("libkofudile.a is for x86-64");
 
 mod calls;
 pub mod ffi;
+mod getdata;
 mod queries;
 mod types;
 
 pub use calls::DownloadWindow;
+pub use getdata::{GETDATA_HASHES, read_getdata, write_getdata, write_request};
 pub use types::{
     BlameReason, BlockedContext, BlockedDecision, Entry, Hash256, Headroom, OwnedFetch, PrefixProbePlan, Reason, Refusal,
     RejectDelivery, Release, Result, Seat, Staged, SyncBudget, default_sync_budget, fast_sync_budget,

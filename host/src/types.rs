@@ -315,11 +315,12 @@ pub struct Release {
     pub reason: Reason,
 }
 
-/// Why a call was refused: it then changed nothing. Of several causes the first in this order is told.
+/// Why a call was refused: it then changed nothing. Of several causes the first in this order is told, but where a payload is read `Payload` first.
 ///
 /// The window of this crate owns its words and its report and takes seats and keys as `u8`, so that its calls meet only `Clock`, `Settings`,
-/// `Peer` (more than 256 alternates), `Duplicate`, `TooMany` and `BodySize`; [`from_words`](crate::DownloadWindow::from_words) meets `NoWindow`. A host that
-/// calls the raw layer ([`ffi`](crate::ffi)) with memory of its own can meet the others.
+/// `Peer` (more than 256 alternates), `Duplicate`, `TooMany` and `BodySize`; [`from_words`](crate::DownloadWindow::from_words) meets `NoWindow`,
+/// [`write_getdata`](crate::write_getdata) `TooMany` and [`read_getdata`](crate::read_getdata) `Payload`. A host that calls the raw layer
+/// ([`ffi`](crate::ffi)) with memory of its own can meet the others.
 #[derive(Clone, Copy, Debug, PartialEq, Eq)]
 #[non_exhaustive]
 pub enum Refusal {
@@ -338,14 +339,18 @@ pub enum Refusal {
     Peer = 6,
     /// 7: whoever built the request listed a hash that is pending already, or listed one twice.
     Duplicate = 7,
-    /// 8: whoever built the request listed more than fit: 256 may be pending.
+    /// 8: whoever built the request listed more than fit: 256 may be pending, and as many may be in one getdata message.
     TooMany = 8,
     /// 9: a peer sent a body above 4,294,967,295 bytes.
     BodySize = 9,
+    /// 10: the host lent less memory than would be written.
+    ShortOutput = 10,
+    /// 11: a peer sent bytes that are no getdata payload for at most 256 witness blocks: a type, the length, the count or its form is another.
+    Payload = 11,
 }
 
 impl Refusal {
-    const ALL: [Self; 9] = [
+    const ALL: [Self; 11] = [
         Self::WordsLength,
         Self::NoWindow,
         Self::ShortReport,
@@ -355,9 +360,11 @@ impl Refusal {
         Self::Duplicate,
         Self::TooMany,
         Self::BodySize,
+        Self::ShortOutput,
+        Self::Payload,
     ];
 
-    /// 1 to 9.
+    /// 1 to 11.
     pub const fn number(self) -> u8 {
         self as u8
     }
@@ -381,8 +388,10 @@ impl fmt::Display for Refusal {
             Self::Settings => "a setting is out of range",
             Self::Peer => "a seat or key is above 255, or a list of them has a wrong length",
             Self::Duplicate => "a hash of the request is pending already, or listed twice",
-            Self::TooMany => "more than 256 entries would be pending",
+            Self::TooMany => "more than 256 entries would be pending, or are listed for one getdata",
             Self::BodySize => "a body is above 4,294,967,295 bytes",
+            Self::ShortOutput => "the memory lent is too short for what would be written",
+            Self::Payload => "the bytes are no getdata payload for at most 256 witness blocks",
         })
     }
 }

@@ -477,8 +477,10 @@ fn refusals_say_their_number() {
         Refusal::Duplicate,
         Refusal::TooMany,
         Refusal::BodySize,
+        Refusal::ShortOutput,
+        Refusal::Payload,
     ];
-    assert_eq!(all.map(Refusal::number), [1, 2, 3, 4, 5, 6, 7, 8, 9]);
+    assert_eq!(all.map(Refusal::number), [1, 2, 3, 4, 5, 6, 7, 8, 9, 10, 11]);
     assert!(all.iter().all(|refusal| !refusal.to_string().is_empty()));
 }
 

@@ -1,6 +1,7 @@
 //! Ours, through the library, beside the original with std's maps and with a cheap hasher: the same calls in one run, medians.
 //! bench/run builds it and hands in where to write; `bench count ROW SUBJECT PENDING TIMES` runs one row on one of them, for callgrind.
 
+mod getdata;
 mod ours;
 mod rows;
 mod subject;
@@ -26,6 +27,9 @@ const PENDING: [usize; 4] = [0, 8, 128, 256];
 fn main() {
     let arguments: Vec<String> = std::env::args().skip(1).collect();
     match arguments.iter().map(String::as_str).collect::<Vec<_>>()[..] {
+        ["count", row @ ("Write" | "Read"), subject, hashes, times] => {
+            getdata::count(row, subject, number(hashes), number(times))
+        }
         ["count", row, subject, pending, times] => count(row, subject, number(pending), number(times)),
         [rounds, results, picture] => run(number(rounds), results, picture),
         _ => panic!("bench ROUNDS RESULTS PICTURE"),
@@ -67,7 +71,7 @@ fn run(rounds: usize, results: &str, picture: &str) {
         let rust = ns(&mut twin);
         medians.insert((Row::Check, pending), Medians { ours: ns(&mut proved), own_maps: rust, cheap: rust });
     }
-    let results_text = Results { medians, rounds, load };
+    let results_text = Results { medians, payloads: getdata::measured(&timer, rounds), rounds, load };
     let text = results_text.text();
     println!("{text}");
     std::fs::write(results, text).expect("the results are written");

@@ -1,5 +1,6 @@
 //! The results as text and as a picture.
 
+use crate::getdata::Times;
 use crate::rows::{OWNERS, Row};
 use std::collections::BTreeMap;
 use std::fmt::Write;
@@ -14,6 +15,7 @@ pub struct Medians {
 
 pub struct Results {
     pub medians: BTreeMap<(Row, usize), Medians>,
+    pub payloads: Vec<Times>,
     pub rounds: usize,
     pub load: String,
 }
@@ -49,6 +51,9 @@ const OTHERS: [(Row, &str); 9] = [
 fn over_check(row: Row) -> f64 {
     if row == Row::RequestOne { 300.0 } else { 350.0 }
 }
+
+/// What getdata's payload may take at most, of the same in Rust.
+const MOST_OF_RUST: f64 = 1.2;
 
 /// What was reached of one target.
 struct Reached {
@@ -124,9 +129,31 @@ impl Results {
             };
             let _ = writeln!(text, "| {name} | {target} | {} | {met} |", reached.text);
         }
+        self.payloads(&mut text);
         self.times(&mut text, [0, 8]);
         self.times(&mut text, [128, 256]);
         text
+    }
+
+    /// getdata's payload, which needs no window.
+    fn payloads(&self, text: &mut String) {
+        let _ = writeln!(text, "\n## getdata's payload\n");
+        let _ = writeln!(
+            text,
+            "Ours / plain Rust with a vector that is kept / into a lent slice. The target is at most {MOST_OF_RUST} of it.\n"
+        );
+        let _ = writeln!(text, "| work | hashes | bytes | ns | GB/s, ours | ratio | met |\n|---|---|---|---|---|---|---|");
+        for Times { work, hashes, bytes, ours, vec, slice } in &self.payloads {
+            let (vec_ratio, slice_ratio) = (ours / vec, ours / slice);
+            let met = |ratio| if ratio <= MOST_OF_RUST { "yes" } else { "no" };
+            let _ = writeln!(
+                text,
+                "| {work} | {hashes} | {bytes} | {ours:.1} / {vec:.1} / {slice:.1} | {:.1} | {vec_ratio:.2} … {slice_ratio:.2} | {} … {} |",
+                *bytes as f64 / ours,
+                met(vec_ratio),
+                met(slice_ratio)
+            );
+        }
     }
 
     /// The times at two numbers pending.

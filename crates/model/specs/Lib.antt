@@ -19,4 +19,5 @@ pub mod Queries
 pub mod Refusals
 pub mod Perform
 pub mod Says
+pub mod Getdata
 pub mod Figures

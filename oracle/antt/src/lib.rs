@@ -3,5 +3,6 @@
 pub mod checks;
 pub mod closed;
 pub mod directed;
+pub mod getdata;
 pub mod spell;
 mod template;

@@ -1,5 +1,6 @@
 //! Writes seeded calls with the original's answers, gone entries and states as closed antt checks of the definitions.
-//! definitions CALLS SEED MODEL OUT LENGTH TABLE CALLS-A-FILE: MODEL is the folder of the model's specs, OUT the crate folder to write.
+//! definitions CALLS SEED MODEL OUT LENGTH TABLE CALLS-A-FILE: MODEL is the folder of the model's specs, OUT the crate folder to write. Getdata's checks
+//! are among them; with `getdata` for CALLS there are no others.
 
 use calls::compare;
 use calls::events;
@@ -8,7 +9,7 @@ use calls::select;
 use calls::tally::Tally;
 use calls::{Call, Outcome};
 use definitions::checks::{self, Sequence};
-use definitions::{closed, directed};
+use definitions::{closed, directed, getdata};
 use ordered::Original;
 use std::cmp::Reverse;
 use std::collections::BTreeSet;
@@ -31,14 +32,20 @@ fn main() -> io::Result<ExitCode> {
         eprintln!("wanted: CALLS SEED MODEL OUT LENGTH TABLE CALLS-A-FILE");
         std::process::exit(2);
     };
+    let only_getdata = calls == "getdata";
+    let calls = if only_getdata { "0" } else { calls };
     let profile = Profile { mean_length: number(length), table: number(table), distinct_heights: false };
     let mut tally = Tally::default();
     let sequences = record(number(calls), number(seed), profile, &mut tally);
     let (mut modules, index) = modules(&sequences, number(a_file) as usize);
-    modules.push(("Directed".to_string(), directed()));
+    if !only_getdata {
+        modules.push(("Directed".to_string(), directed()));
+    }
+    let (of_getdata, cases) = getdata::modules();
+    modules.extend(of_getdata);
     closed::write(Path::new(out), Path::new(model), &modules)?;
     fs::write(Path::new(out).join("events.txt"), index)?;
-    print_tally(&tally, &sequences);
+    print_tally(&tally, &sequences, cases);
     let complete = number(calls) < LONG_RUN || tally.problems().is_empty();
     Ok(if complete { ExitCode::SUCCESS } else { ExitCode::FAILURE })
 }
@@ -129,7 +136,7 @@ fn place_by_words(number: usize, sequence: &Sequence) -> usize {
     if number / SEQUENCES_A_SAMPLE % 2 == 0 { letting_go.unwrap_or(last) } else { last }
 }
 
-fn print_tally(tally: &Tally, sequences: &[Sequence]) {
+fn print_tally(tally: &Tally, sequences: &[Sequence], cases: usize) {
     for (name, count) in tally.table() {
         println!("{count:>10}  {name}");
     }
@@ -139,7 +146,7 @@ fn print_tally(tally: &Tally, sequences: &[Sequence]) {
     let calls: usize = sequences.iter().map(|sequence| sequence.calls.len()).sum();
     let by_words = sequences.iter().skip(SEQUENCES_A_SAMPLE / 2).step_by(SEQUENCES_A_SAMPLE).count();
     println!(
-        "{} sequences, {calls} calls; words at each sequence's end; {by_words} calls on lent words and a lent report",
+        "{} sequences, {calls} calls; words at each sequence's end; {by_words} calls on lent words and a lent report; {cases} of getdata",
         sequences.len()
     );
 }

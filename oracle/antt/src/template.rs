@@ -26,6 +26,7 @@ pub fn run(model: &Path) -> io::Result<String> {
         "Layout",
         "Refusals",
         "Perform",
+        "Getdata",
     ];
     let mut imports = String::new();
     let mut opened: Vec<String> = OWN.iter().map(ToString::to_string).collect();
@@ -42,7 +43,7 @@ pub fn run(model: &Path) -> io::Result<String> {
 }
 
 /// The tests: what is said of them, name, arguments with their types, and what must equal the last argument.
-const TESTS: [(&str, &str, &[(&str, &str)], &str); 6] = [
+const TESTS: [(&str, &str, &[(&str, &str)], &str); 10] = [
     ("whether a run from an opening on gives these numbers", "runs", &[("cs", "List Call")], "digests cs nowhere"),
     ("whether its last call, by words, gives these", "ends", &[("cs", "List Call"), ("c", "Call")], "last-by-words cs c"),
     (
@@ -69,6 +70,25 @@ const TESTS: [(&str, &str, &[(&str, &str)], &str); 6] = [
         &[("cs", "List Call"), ("n", "ℕ"), ("l", "List ℕ"), ("room", "ℕ"), ("x", "Call")],
         "outcome-digests (perform x (cut n l (encode (end-of cs nowhere))) (replicate room lent))",
     ),
+    (
+        "whether a list of words, written as getdata into outputs of these lengths, answers and leaves these",
+        "writes-getdata",
+        &[("ws", "List ℕ"), ("lengths", "List ℕ")],
+        "written ws lengths",
+    ),
+    (
+        "whether a payload, read into lists of so many words, answers and leaves these",
+        "reads-getdata",
+        &[("p", "List ℕ"), ("rooms", "List ℕ")],
+        "read-into p rooms",
+    ),
+    (
+        "the same, changed in several ways",
+        "reads-changed",
+        &[("p", "List ℕ"), ("n", "ℕ"), ("ls", "List (List ℕ)")],
+        "read-changed p n ls",
+    ),
+    ("the same, cut to several lengths", "reads-cut", &[("p", "List ℕ"), ("n", "ℕ"), ("ks", "List ℕ")], "read-cut p n ks"),
 ];
 
 fn test(about: &str, name: &str, arguments: &[(&str, &str)], is: &str, opened: &str) -> String {
@@ -80,7 +100,7 @@ fn test(about: &str, name: &str, arguments: &[(&str, &str)], is: &str, opened: &
 }
 
 /// Definitions of `Run.antt` itself, and of the library, that a run opens.
-const OWN: [&str; 21] = [
+const OWN: [&str; 28] = [
     "equal",
     "digest",
     "filled",
@@ -101,6 +121,13 @@ const OWN: [&str; 21] = [
     "table-changed",
     "table-with",
     "verdicts",
+    "pattern",
+    "written-words",
+    "written",
+    "read-words",
+    "read-into",
+    "read-changed",
+    "read-cut",
     "ones onesIn",
 ];
 

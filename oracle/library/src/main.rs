@@ -5,11 +5,15 @@ mod damaged;
 mod differences;
 #[allow(clippy::too_many_arguments)]
 mod ffi;
+mod getdata;
 mod lent;
 mod record;
 mod refused;
 mod window;
 
+use ::getdata::cases::Cases;
+use ::getdata::comparison::{Comparison, Depth};
+use ::getdata::mistakes;
 use beside::Result;
 use calls::{figures, tally};
 use damaged::Damaged;
@@ -30,8 +34,8 @@ struct Found {
     seconds: u64,
 }
 
-const USAGE: &str = "wanted: calls CALLS SEED SEEDS, refusals SEED, damage CASES SEED, figures, differences, vectors FOLDER, short CALLS SEED CASES, or \
-                     all CALLS SEED SEEDS CASES DOCUMENT EVENTS COMMIT SUM";
+const USAGE: &str = "wanted: calls CALLS SEED SEEDS, refusals SEED, damage CASES SEED, figures, differences, getdata SEED, getdata-mistakes SEED, \
+                     vectors FOLDER, short CALLS SEED CASES, or all CALLS SEED SEEDS CASES DOCUMENT EVENTS COMMIT SUM";
 
 fn main() -> ExitCode {
     let arguments: Vec<String> = env::args().skip(1).collect();
@@ -42,15 +46,31 @@ fn main() -> ExitCode {
         ["damage", cases, seed] => vec![damage(number(cases), number(seed))],
         ["figures"] => vec![held_figures()],
         ["differences"] => vec![meant_to_differ()],
+        ["getdata", seed] => vec![payloads(Depth::LONG, number(seed))],
+        ["getdata-mistakes", seed] => vec![mistaken_payloads(number(seed))],
         ["vectors", folder] => return record::vectors(folder),
         ["short", calls, seed, cases] => {
             let seed = number(seed);
-            vec![beside(number(calls), seed, 1).0, refusals(seed), damage(number(cases), seed), held_figures(), meant_to_differ()]
+            vec![
+                beside(number(calls), seed, 1).0,
+                refusals(seed),
+                damage(number(cases), seed),
+                held_figures(),
+                meant_to_differ(),
+                payloads(Depth::SHORT, seed),
+            ]
         }
         ["all", calls, seed, seeds, cases, document, events, commit, sum] => {
             let (compared, table) = beside(number(calls), number(seed), number(seeds));
-            let all =
-                vec![compared, refusals(number(seed)), damage(number(cases), number(seed)), held_figures(), meant_to_differ()];
+            let seed = number(seed);
+            let all = vec![
+                compared,
+                refusals(seed),
+                damage(number(cases), seed),
+                held_figures(),
+                meant_to_differ(),
+                payloads(Depth::LONG, seed),
+            ];
             fs::write(events, table).unwrap_or_else(|error| panic!("{events}: {error}"));
             fs::write(document, text(&all, &arguments, commit, sum)).unwrap_or_else(|error| panic!("{document}: {error}"));
             all
@@ -182,6 +202,46 @@ fn meant_to_differ() -> Found {
     let failures: Vec<String> = shown.iter().filter(|case| !case.holds).map(|case| case.what.to_string()).collect();
     let passed = (shown.len() - failures.len()) as u64;
     Found { title: "Where they are meant to differ", lines, passed, failures, seconds: start.elapsed().as_secs() }
+}
+
+/// With how many mistakes the cases notice.
+fn payloads(depth: Depth, seed: u64) -> Found {
+    let start = Instant::now();
+    let mut comparison = Comparison::new(&getdata::Library, 1_000);
+    comparison.run(&Cases::new(seed), depth);
+    let Comparison { passed, branches, mut failures, .. } = comparison;
+    let mistaken = mistaken_payloads(seed);
+    let mut lines = vec![
+        format!(
+            "Request 01's two calls beside a reference written from its text (`oracle/getdata`), seed {seed}: {passed} calls equal in answer and in all memory, \
+             what is lent and what lies around it. {} How often each branch was met:",
+            mistaken.lines[0]
+        ),
+        String::new(),
+        "| branch or case | times |\n|---|---|".to_string(),
+    ];
+    lines.extend(branches.table().map(|(name, times)| format!("| {name} | {times} |")));
+    failures.extend(mistaken.failures);
+    let passed = passed + mistaken.passed;
+    Found { title: "Getdata's payload", lines, passed, failures, seconds: start.elapsed().as_secs() }
+}
+
+/// Their number, and then each mistake with the case that notices it.
+fn mistaken_payloads(seed: u64) -> Found {
+    let start = Instant::now();
+    let (without, tried) = mistakes::tried(seed);
+    let unnoticed = tried.iter().filter(|mistake| mistake.noticed.is_none());
+    let mut failures: Vec<String> = unnoticed.map(|mistake| format!("not noticed: {}", mistake.what)).collect();
+    let passed = (tried.len() - failures.len()) as u64;
+    let mut lines = vec![format!(
+        "Of {} wrong writers and readers, each by one rule, the same cases notice {passed}; the one without a mistake passes {} calls.",
+        tried.len(),
+        without.as_ref().map_or("not all".to_string(), |calls| format!("all {calls}"))
+    )];
+    let noticed = |mistake: &mistakes::Tried| mistake.noticed.clone().unwrap_or("nothing".to_string());
+    lines.extend(tried.iter().map(|mistake| format!("{}: noticed at {}", mistake.what, noticed(mistake))));
+    failures.extend(without.err().map(|problem| format!("without a mistake: {problem}")));
+    Found { title: "Mistakes in getdata's payload", lines, passed, failures, seconds: start.elapsed().as_secs() }
 }
 
 fn held(holds: bool) -> &'static str {

@@ -96,13 +96,18 @@ impl Work {
         Ok(Self { model: model.to_path_buf(), folder: folder.to_path_buf(), run, checks, caught: BTreeMap::new() })
     }
 
-    /// Runs some checks, and more of them until one fails: first those that show the hinted event, or caught most in the same file so far.
+    /// Runs some checks, and more of them until one fails: first those that show the hinted event, or caught most in the same file so far. Getdata's are for
+    /// its own file.
     fn try_mistake(&mut self, mistake: &Mistake) -> io::Result<Verdict> {
         let score = |check: &Check| self.caught.get(&(mistake.file.clone(), check.name.clone())).copied().unwrap_or(0);
         let shown = |check: &Check| check.events.iter().filter(|event| event.contains(&mistake.hint)).count();
         let refusals_too = OF_REFUSALS.contains(&mistake.file.as_str());
-        let mut order: Vec<&Check> =
-            self.checks.iter().filter(|check| refusals_too || !check.of_refusals || shown(check) > 0).collect();
+        let of_getdata = |check: &Check| check.name.starts_with("Getdata");
+        let wanted = |check: &Check| match mistake.file.as_str() {
+            "Getdata" => of_getdata(check),
+            _ => !of_getdata(check) && (refusals_too || !check.of_refusals || shown(check) > 0),
+        };
+        let mut order: Vec<&Check> = self.checks.iter().filter(|check| wanted(check)).collect();
         order.sort_by_key(|check| Reverse((shown(check), score(check))));
         let (mut tried, mut at_once) = (0, 2);
         while tried < order.len() {

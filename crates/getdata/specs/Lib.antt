@@ -1,0 +1,4 @@
+pub mod Below
+pub mod Bytes
+pub mod Answers
+pub mod Returns
