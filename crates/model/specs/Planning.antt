@@ -239,3 +239,19 @@ unfoldable pub next-peer-request : ℕ → Lent → ℕ → Window → Proposal
 next-peer-request source l now w =
     cond (peer-has-expired-pending source now w || peer-in-staller-cooldown source now w) (no-request (stay w))
     (next-peer-request-allowing-retry source l now w)
+
+-- ---- a plan in the lists that are lent for it
+
+-- its hashes, four words each
+unfoldable pub ask-hashes : List Ask → List ℕ
+ask-hashes [] = []
+ask-hashes (x ∷ l) = x .hash .a ∷ x .hash .b ∷ x .hash .c ∷ x .hash .d ∷ ask-hashes l
+
+-- its heights
+unfoldable pub ask-heights : List Ask → List ℕ
+ask-heights [] = []
+ask-heights (x ∷ l) = x .height ∷ ask-heights l
+
+-- a lent list with some numbers in its first places, the others as they were lent
+unfoldable pub written : List ℕ → List ℕ → List ℕ
+written l lent = l ++ drop (length l) lent
