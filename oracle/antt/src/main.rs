@@ -5,6 +5,8 @@
 use calls::compare;
 use calls::events;
 use calls::generator::{Planning, Profile};
+use calls::odd::spoiled;
+use calls::random::Random;
 use calls::select;
 use calls::tally::Tally;
 use calls::{Answer, Call, Outcome, Window};
@@ -23,6 +25,8 @@ const SEQUENCES_A_SAMPLE: usize = 20;
 /// The numbers of the first hand-made sequences.
 const DIRECTED: usize = 100_000;
 const DIRECTED_PLANS: usize = 200_000;
+/// And of those with odd lists.
+const ODD: usize = 300_000;
 
 /// Entries swept by one plan.
 const MOST_SWEPT: usize = 9;
@@ -48,6 +52,9 @@ fn main() -> io::Result<ExitCode> {
     }
     if !only_getdata {
         modules.push(("DirectedPlans".to_string(), directed(DIRECTED_PLANS, directed::plans)));
+    }
+    if only_plans {
+        modules.extend(odd_plans(&sequences, number(seed), number(a_file) as usize));
     }
     let (of_getdata, cases) = if only_plans { (Vec::new(), 0) } else { getdata::modules() };
     modules.extend(of_getdata);
@@ -119,6 +126,31 @@ fn modules(sequences: &[Sequence], a_file: usize) -> (Vec<(String, String)>, Str
 fn directed(first: usize, made: fn(&mut dyn Window) -> Vec<Sequence>) -> String {
     let sequences = made(&mut Original::default());
     (first..).zip(&sequences).map(|(number, sequence)| checks::sequence(number, sequence)).collect()
+}
+
+/// Each sequence up to one of its plans, with that one over odd lists; the answer is as request 02 says it.
+fn odd_plans(sequences: &[Sequence], seed: u64, a_file: usize) -> Vec<(String, String)> {
+    let mut random = Random::new(seed ^ 0x0dd);
+    let mut modules: Vec<(String, String)> = Vec::new();
+    let mut calls = a_file;
+    for (number, sequence) in sequences.iter().enumerate() {
+        let Some(place) = sequence.calls.iter().rposition(|call| call.plan().is_some()) else { continue };
+        let before = &sequence.outcomes[place - 1];
+        let call = spoiled(&mut random, &sequence.calls[place], &before.state);
+        let mut outcome = Original::loaded(&before.state).call(&call);
+        outcome.answer = events::told_plan(before, &call, &outcome);
+        if calls >= a_file {
+            modules.push((format!("Odd{}", modules.len() + 1), String::new()));
+            calls = 0;
+        }
+        let odd = Sequence {
+            calls: sequence.calls[..place].iter().cloned().chain([call]).collect(),
+            outcomes: sequence.outcomes[..place].iter().cloned().chain([outcome]).collect(),
+        };
+        modules.last_mut().expect("a module was begun").1 += &checks::sequence(ODD + number, &odd);
+        calls += odd.calls.len();
+    }
+    modules
 }
 
 /// The sequences that show the most new events a call come first.

@@ -166,7 +166,8 @@ impl Generator {
         let races = theme == Theme::Races;
         let can_plan = races && state.preferred_peer.is_none() && !probe && pending >= 4;
         let fanout = theme == Theme::Capacity || probe || (races && state.fanout_engaged);
-        let plans = when(theme == Theme::Plans, 90, when(pending == 0, 14, when(pending < 2 * self.world.table, 7, 2)));
+        let usual = when(pending == 0, 14, when(pending < 2 * self.world.table, 7, 2));
+        let plans = when(theme == Theme::Plans, 90, when(bodies, 1, usual));
         [
             (Action::Request, when(pending == 0, 40, when(pending < self.world.table, 14, 1))),
             (Action::OwnedFetch, 5),
@@ -449,6 +450,10 @@ impl Generator {
         }
         if state.cold_front.is_some() && self.random.chance(40) {
             return Some(Call::HedgeOffered { source, hash });
+        }
+        let planning = self.profile.planning != Planning::Without;
+        if planning && state.owner_downloading_since.len() > 2 && self.random.chance(10) {
+            return Some(Call::EffectiveOwnerTimeout);
         }
         if state.owner_downloading_since.len() > 1 && self.random.chance(15) {
             return Some(Call::PeerHasExpiredPending { source, clock: self.clock(state, &start_deadlines(state)) });

@@ -193,8 +193,8 @@ fn odd_lists(cases: u64, seed: u64) -> Found {
     let OddLists { plans, requests, twice, ragged, failures } = odd;
     let line = format!(
         "{plans} plans over lists that name hashes twice, chains that do not hold together and staged hashes that are pending (seed {seed}), {requests} of which came \
-         to a request: what goes and the window after it as in the Rust, and so the request, but for {twice} in which the Rust's own names a hash twice. Request 02's \
-         promises hold of each. {ragged} plans with words past the whole hashes and with room to spare: as without."
+         to a request: what goes and the window after it as in the Rust, and so the request, but for {twice} in which the Rust's own names a hash twice, and which are as \
+         request 02 says. Its promises hold of each. {ragged} plans with words past the whole hashes and with room to spare: as without."
     );
     let passed = (plans + ragged).saturating_sub(failures.len() as u64);
     Found { title: "Plans over odd lists", lines: vec![line], passed, failures, seconds: start.elapsed().as_secs() }

@@ -1,5 +1,5 @@
-//! Plans over lists that the comparison leaves out: hashes named twice, chains that do not hold together, staged hashes that are pending, ragged lists.
-//! What goes and the window after it are the original's all the same, and so is the request, but where the original's own names a hash twice. Request 02's
+//! Plans over odd lists: hashes named twice, chains that do not hold together, staged hashes that are pending, ragged lists. What goes and the window after it
+//! are the original's all the same, and so is the request, but where the original's own names a hash twice: there it is as request 02 says it. Request 02's
 //! promises hold of every plan.
 
 use crate::beside::difference;
@@ -7,11 +7,11 @@ use crate::lent::{Lent, Said};
 use crate::window::{Library, release};
 use calls::figures::Loaded;
 use calls::generator::{Generator, Planning, Profile};
+use calls::odd::{names_twice, spoiled};
 use calls::random::Random;
-use calls::{Answer, Call, Hash, Outcome, Release, State, Window, sound};
+use calls::{Answer, Call, Outcome, Release, State, Window, events, sound};
 use layout::{decode, encode, is_window};
 use ordered::Original;
-use std::collections::BTreeSet;
 
 #[derive(Default)]
 pub struct OddLists {
@@ -57,11 +57,14 @@ impl OddLists {
         if !broken.is_empty() {
             self.failures.push(format!("{broken:?} by {call:?}: {:?}", outcome.answer));
         }
+        let before = Outcome { answer: Answer::Done, gone: Vec::new(), state: state.clone() };
+        let told = Outcome { answer: events::told_plan(&before, call, &theirs), ..theirs.clone() };
         let twice = names_twice(&theirs.answer);
         self.twice += u64::from(twice);
-        let alike = outcome.gone == theirs.gone && outcome.state == theirs.state;
-        if !alike || !twice && outcome.answer != theirs.answer {
-            self.failures.push(difference(call, &theirs, mine));
+        if told.answer != theirs.answer && !twice {
+            self.failures.push(difference(call, &theirs, Ok(told)));
+        } else if *outcome != told {
+            self.failures.push(difference(call, &told, mine));
         }
     }
 
@@ -89,38 +92,4 @@ fn performed(call: &raw::Call, state: &State) -> (Said, Option<Vec<Release>>, Op
     let places = if let Said::Answered(_, places) = said { places as usize } else { 0 };
     let gone = lent.report()[..places.min(256)].iter().map(release).collect();
     (said, gone, decode(lent.words()).filter(|_| is_window(lent.words())))
-}
-
-fn names_twice(answer: &Answer) -> bool {
-    let Answer::Proposed(Some(request)) = answer else {
-        return false;
-    };
-    let different: BTreeSet<Hash> = request.entries.iter().map(|(hash, _)| *hash).collect();
-    different.len() < request.entries.len()
-}
-
-/// One to four changes of the lists. Headrooms are handed in, so that the original does not work them out.
-fn spoiled(random: &mut Random, call: &Call, state: &State) -> Call {
-    let mut call = call.clone();
-    let (Call::NextPeerRequest { lent, .. } | Call::NextPeerRequestAllowingRetry { lent, .. }) = &mut call else {
-        unreachable!("asked for plans only")
-    };
-    lent.staging = None;
-    let pending: Vec<Hash> = state.pending.iter().map(|entry| entry.hash).collect();
-    for _ in 0..1 + random.below(4) {
-        let (place, other) = (random.below(lent.chain.len() as u64) as usize, random.below(lent.chain.len() as u64) as usize);
-        let near = (place + 1).min(lent.chain.len() - 1);
-        let hash = lent.chain[place];
-        match random.below(9) {
-            0 | 1 => lent.chain[near] = hash,
-            2 => lent.chain[other] = hash,
-            3 => lent.chain[place] = random.maybe(&pending).unwrap_or(Hash([7; 32])),
-            4 => lent.chain[place..].reverse(),
-            5 => lent.staged.extend([random.maybe(&lent.staged).unwrap_or(hash); 2]),
-            6 => lent.staged.extend(&pending),
-            7 => lent.refused.extend([hash; 2]),
-            _ => lent.chain.fill(hash),
-        }
-    }
-    call
 }

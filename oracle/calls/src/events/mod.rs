@@ -25,6 +25,24 @@ pub(crate) struct Seen<'a> {
     pub after: &'a State,
 }
 
+impl<'a> Seen<'a> {
+    fn of(before: &'a Outcome, call: &'a Call, outcome: &'a Outcome) -> Self {
+        Self {
+            last: &before.answer,
+            before: &before.state,
+            call,
+            answer: &outcome.answer,
+            gone: &outcome.gone,
+            after: &outcome.state,
+        }
+    }
+}
+
+/// What a plan comes to by request 02, of what it let go and left: on lists that name a hash twice the original's own answer may differ.
+pub fn told_plan(before: &Outcome, call: &Call, outcome: &Outcome) -> Answer {
+    planning::told(&mut Tally::default(), &Seen::of(before, call, outcome))
+}
+
 const JUMP: u64 = MAX_DURATION;
 
 /// Counts the events of one call; `before` is missing for a run's first opening.
@@ -36,14 +54,7 @@ pub fn count(tally: &mut Tally, before: Option<&Outcome>, call: &Call, outcome: 
     let Some(before) = before else {
         return;
     };
-    let seen = Seen {
-        last: &before.answer,
-        before: &before.state,
-        call,
-        answer: &outcome.answer,
-        gone: &outcome.gone,
-        after: &outcome.state,
-    };
+    let seen = Seen::of(before, call, outcome);
     everywhere(tally, &seen);
     requests::count(tally, &seen);
     deliveries::count(tally, &seen);

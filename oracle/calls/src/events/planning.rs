@@ -10,12 +10,18 @@ use crate::tally::Tally;
 use std::collections::BTreeSet;
 
 pub(crate) fn count(tally: &mut Tally, seen: &Seen) {
-    let Some((clock, source, lent)) = seen.call.plan() else {
-        return;
-    };
-    surroundings(tally, seen, lent);
-    let told = if sweeps(tally, seen, clock, source, lent) { Planner::new(tally, seen, source, lent).plan() } else { None };
-    tally.hit_if("next_peer_request: told otherwise", Answer::Proposed(told) != *seen.answer);
+    if let Some((_, _, lent)) = seen.call.plan() {
+        surroundings(tally, seen, lent);
+        let told = told(tally, seen);
+        tally.hit_if("next_peer_request: told otherwise", told != *seen.answer);
+    }
+}
+
+/// A plan's answer, told from the state before, what went, and the state after. A hash that is in the plan already is passed by.
+pub(crate) fn told(tally: &mut Tally, seen: &Seen) -> Answer {
+    let (clock, source, lent) = seen.call.plan().expect("asked for plans only");
+    let planned = if sweeps(tally, seen, clock, source, lent) { Planner::new(tally, seen, source, lent).plan() } else { None };
+    Answer::Proposed(planned)
 }
 
 fn surroundings(tally: &mut Tally, seen: &Seen, lent: &Lent) {
@@ -71,6 +77,8 @@ struct Planner<'a> {
     /// `min_refused`.
     low: Option<u32>,
     entries: Vec<(Hash, u32)>,
+    /// What the chain's walk has met that might be asked for.
+    met: BTreeSet<Hash>,
 }
 
 /// What the scan is about; `by_batch` and `by_bytes` are the two that its limit is the lesser of.
@@ -107,6 +115,7 @@ impl<'a> Planner<'a> {
             mean: seen.after.ewma_block_bytes,
             low: None,
             entries: Vec::new(),
+            met: BTreeSet::new(),
         }
     }
 
@@ -278,7 +287,10 @@ impl<'a> Planner<'a> {
         let reach = scan.reach(scan.limit());
         self.tally.compare("clean_contiguous_peer_request: reach against last height", reach, scan.last.into());
         let end = reach.min(scan.last.into()) as u32;
-        let stretch: Vec<(Hash, u32)> = (scan.height..=end).map(|height| (self.lent.chain[height as usize], height)).collect();
+        let mut stretch: Vec<(Hash, u32)> =
+            (scan.height..=end).map(|height| (self.lent.chain[height as usize], height)).collect();
+        let mut met = BTreeSet::new();
+        stretch.retain(|(hash, _)| met.insert(*hash));
         let swept_low = self.low;
         let refused: Vec<u32> =
             stretch.iter().filter(|(hash, _)| self.refused.contains(hash)).map(|(_, height)| *height).collect();
@@ -327,7 +339,7 @@ impl<'a> Planner<'a> {
         self.tally.hit_if("extend_request_by_reverse_scan: pending one passed by", passed[0]);
         self.tally.hit_if("extend_request_by_reverse_scan: staged one passed by", passed[1]);
         self.tally.hit_if("extend_request_by_reverse_scan: taken one passed by", passed[2]);
-        if passed.contains(&true) {
+        if passed.contains(&true) || !self.met.insert(*hash) {
             self.tally.hit_if("extend_request_by_reverse_scan: refused one passed by", refused);
             return false;
         }
