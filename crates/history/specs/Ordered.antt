@@ -175,7 +175,7 @@ unfolding expire-pending extract
 swept-rises c w g = gone-rises _ (w .queue .pending) g
 
 pub change-order : (x : Change) (c : ℕ) (w : Window) → Sound c w → InOrder (delivers-of x (w .queue .pending)) (change x c w .gone)
-unfolding requested observed proposes release-pending requeue-for-retry
+unfolding requested observed proposes release-pending requeue-for-retry extract
 change-order (requests t owner hashes heights next bytes n) c w g = tt
 change-order (fetches t owner h height is-staged bytes n) c w g = tt
 change-order (receives t h bytes source) c w g = received-order h bytes source c w g
