@@ -19,6 +19,10 @@ unfoldable pub lists-refusal : ℕ → ℕ → ℕ → ℕ → Window → ℕ
 lists-refusal chain tip hash-words heights w =
     test 12 (eqb chain (4 * suc tip)) (test 10 (every (leb (4 * max-pending) hash-words ∷ leb max-pending heights ∷ [])) 0)
 
+-- r is that, whatever the window
+abbrev pub ListsRefused : ℕ → ℕ → ℕ → ℕ → ℕ → Type 0
+ListsRefused chain tip hash-words heights r = (w : Window) → r ≡ lists-refusal chain tip hash-words heights w
+
 pub lists-are : (l : Lent) (hash-words heights : ℕ) → lists-refusal (length (l .chain)) (l .tip) hash-words heights ≡ plan-refusal l hash-words heights
 unfolding lists-refusal plan-refusal
 lists-are l hash-words heights = refl
