@@ -1,0 +1,4 @@
+pub mod Lists
+pub mod Named
+pub mod Chain
+pub mod Drafts
