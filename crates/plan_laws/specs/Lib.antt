@@ -2,3 +2,5 @@ pub mod Lists
 pub mod Named
 pub mod Chain
 pub mod Drafts
+pub mod Cases
+pub mod Nexts
