@@ -4,3 +4,4 @@ pub mod Chain
 pub mod Drafts
 pub mod Cases
 pub mod Nexts
+pub mod Entries
