@@ -5,3 +5,4 @@ pub mod Drafts
 pub mod Cases
 pub mod Nexts
 pub mod Entries
+pub mod Reaches

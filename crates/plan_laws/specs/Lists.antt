@@ -19,6 +19,10 @@ pub or-true : (a b : Bool) → (a || b) ≡ true → (a ≡ true) ⊎ (b ≡ tru
 or-true true b e = inl refl
 or-true false b e = inr e
 
+pub not-not : (b : Bool) → not (not b) ≡ b
+not-not true = refl
+not-not false = refl
+
 -- a fact of whichever a test picks
 pub picked : {A : Type 0} (P : A → Type 0) (b : Bool) (x y : A) → (b ≡ true → P x) → (b ≡ false → P y) → P (cond b x y)
 picked P true x y f g = f refl
