@@ -20,7 +20,7 @@ use Rattle.model.specs.Planning.{Lent, Draft, Scan, ask, names, is-pending, is-
 use Rattle.model.specs.declared.Hash.{Hash}
 use Rattle.model.specs.declared.Height.{Height}
 use Rattle.model.specs.declared.Height.the-variants.{Unknown, Known}
-use Rattle.laws.specs.Numbers.{both, lesser-le-first, lesser-le-second, lesser-first, greater-le}
+use Rattle.laws.specs.Numbers.{both, lesser-le-first, lesser-le-second, lesser-first, le-lesser, greater-le}
 use Rattle.plan_laws.specs.Lists.{or-true, not-not, Every, every-map, every-take, every-select, any-none, member-any, member-select, select-all, count-select, count-or, count-alike, split-length}
 use Rattle.plan_laws.specs.Named.{same-self, NamesOnce, Once, hashes-of, pending-hashes, pending-named, count-named, first-named-every, first-named-select}
 use Rattle.plan_laws.specs.Chain.{Stands, Higher, contiguous-stands, contiguous-member, contiguous-many, contiguous-higher, contiguous-once, higher-select, first-or-lower}
@@ -148,3 +148,68 @@ module _ (l : Lent) (w : Window) (s : Scan) (taken : List Ask) (once : NamesOnce
       let taken-few = count-named (hashes-of taken) xs (λ h. omega (arith, count-select (λ a. same h (a .hash)) (is-open l w) looked, looked-once h)) in
       let old = count-alike (λ a. not (is-new a)) (named (hashes-of taken)) (λ a. not-not (named (hashes-of taken) a)) xs in
       omega (arith, split-length (is-open l w) looked, shut, count-or (is-pending w) (is-staged l) looked, split-length is-new xs, old, length-map taken (λ a. a .hash), ap length found-is)
+
+  abbrev kept : Ask → Bool
+  kept a = not (is-refused l a)
+
+  module _ (low : Height) (n : ℕ) (below-n : s .next ≤ n) (from-n : w .frontier ≤ n) (on-chain : n < length chain) where
+    abbrev next : ℕ
+    next = held-back (noticed l found low) (w .frontier) (next-after s (candidates l w s taken))
+
+    -- past the reach: the peer has no more, or as many as were wanted were found
+    beyond-few : last < n → any (is-refused l) found ≡ false → length (candidates l w s taken) < s .limit → s .tip < n
+    unfolding candidates reach
+    beyond-few b none few =
+        let all : candidates l w s taken ≡ found = select-all kept found (every-map (λ a. is-refused l a ≡ false) (λ a. kept a ≡ true) (λ a e. ap not e) found (any-none (is-refused l) found none)) in
+        let end = s .height + (s .limit + passed - 1) in
+        elim (both (leb end (s .tip))) [
+          | inl q ↦
+              let whole : last ≡ end = lesser-first end (s .tip) (leb-true end (s .tip) q) in
+              absurd (omega (arith, contiguous-many (s .height) last (l .chain) (omega arith), found-many, ap length all))
+          | inr q ↦ omega (arith, leb-false end (s .tip) q, lesser-le-second end (s .tip), reached end (leb-false end (s .tip) q))
+        ]
+      where
+        reached : (e : ℕ) → s .tip < e → s .tip ≤ lesser e (s .tip)
+        reached e b = le-lesser e (s .tip) (s .tip) (omega arith) (omega arith)
+
+    -- so a next height above n says that n is in the reach
+    in-reach : n < next → n ≤ last
+    unfolding candidates
+    in-reach b = elim (both (leb n last)) [
+      | inl q ↦ leb-true n last q
+      | inr q ↦
+          let past-it : last < n = leb-false n last q in
+          let under : Every (λ a. a .height ≤ n) found = every-map (λ a. a .height ≤ last) (λ a. a .height ≤ n) (λ a k. omega arith) found found-low in
+          let strictly : Every (λ a. a .height < n) found = every-map (λ a. a .height ≤ last) (λ a. a .height < n) (λ a k. omega arith) found found-low in
+          elim (both (any (is-refused l) found)) [
+            | inl r ↦ absurd (omega (arith, held-stops (noticed l found low) (w .frontier) (next-after s (candidates l w s taken)) n (noticed-any l n found low under r) from-n))
+            | inr r ↦
+                let cs = candidates l w s taken in
+                let firsts = every-take (λ a. a .height < n) (s .limit) cs (every-select (λ a. a .height < n) kept found strictly) in
+                absurd (omega (arith, held-below (noticed l found low) (w .frontier) (next-after s cs) n from-n (after-below s cs n below-n firsts (beyond-few past-it r))))
+          ]
+    ]
+
+    module _ (d : Hash) (first : s .height ≤ n) where
+      abbrev at-n : Ask
+      at-n = ask (getD chain n d) n
+
+      -- what could be asked for there is taken
+      pub scan-takes : n < next → is-open l w at-n ≡ true → named (hashes-of taken) at-n ≡ false → List·Memᴰ at-n (take (s .limit) (candidates l w s taken))
+      unfolding candidates
+      scan-takes b o new =
+          let m = found-member at-n (contiguous-member (s .height) last (l .chain) d n first (in-reach b) on-chain) o new in
+          let cs = candidates l w s taken in
+          elim (both (is-refused l at-n)) [
+            | inl r ↦ absurd (omega (arith, held-stops (noticed l found low) (w .frontier) (next-after s cs) n (noticed-some l n found low at-n m r (omega arith)) from-n))
+            | inr r ↦
+                let k : List·Memᴰ at-n cs = member-select kept at-n found m (ap not r) in
+                elim (both (ltb (length cs) (s .limit))) [
+                  | inl q ↦ rw (take-all (s .limit) cs (omega (arith, ltb-true (length cs) (s .limit) q))) k
+                  | inr q ↦ elim (first-or-lower (s .limit) (s .height) at-n cs k (higher-select kept (s .height) found found-higher)) [
+                    | inl i ↦ i
+                    | inr i ↦ absurd (omega (arith, held-below (noticed l found low) (w .frontier) (next-after s cs) n from-n
+                    (after-below s cs n below-n i (λ few. absurd (omega (arith, ltb-false (length cs) (s .limit) q))))))
+                  ]
+                ]
+          ]
