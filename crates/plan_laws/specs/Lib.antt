@@ -6,3 +6,4 @@ pub mod Cases
 pub mod Nexts
 pub mod Entries
 pub mod Reaches
+pub mod Complete

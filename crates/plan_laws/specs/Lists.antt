@@ -98,6 +98,22 @@ module _ {A : Type 0} where
       | inr q ↦ rw q (member-any x l m e)
     ]
 
+    pub any-left : (xs ys : List A) → any p xs ≡ true → any p (xs ++ ys) ≡ true
+    unfolding any
+    any-left [] ys e = absurd (true≢false (sym e))
+    any-left (x ∷ xs) ys e = elim (both (p x)) [
+      | inl q ↦ rw q
+      | inr q ↦ let e′ = rw q at e in rw q (any-left xs ys e′)
+    ]
+
+    pub any-right : (xs ys : List A) → any p ys ≡ true → any p (xs ++ ys) ≡ true
+    unfolding any
+    any-right [] ys e = e
+    any-right (x ∷ xs) ys e = elim (both (p x)) [
+      | inl q ↦ rw q
+      | inr q ↦ rw q (any-right xs ys e)
+    ]
+
     pub member-select : (x : A) (l : List A) → List·Memᴰ x l → p x ≡ true → List·Memᴰ x (select p l)
     unfolding select
     member-select x (y ∷ l) (List·Memᴰ·head q) e = rw (subst (λ (z : A). p z ≡ true) q e) (List·Memᴰ·head q)

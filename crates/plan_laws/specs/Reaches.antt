@@ -70,11 +70,11 @@ held-stops : (low : Height) (f next n : ℕ) → AtMost n low → f ≤ n → he
 held-stops Unknown f next n a b = absurd a
 held-stops (Known m) f next n a b = greater-le (lesser next m) f n (omega (arith, lesser-le-second next m)) b
 
-held-below : (low : Height) (f next n : ℕ) → f ≤ n → next ≤ n → held-back low f next ≤ n
+pub held-below : (low : Height) (f next n : ℕ) → f ≤ n → next ≤ n → held-back low f next ≤ n
 held-below Unknown f next n b c = c
 held-below (Known m) f next n b c = greater-le (lesser next m) f n (omega (arith, lesser-le-first next m)) b
 
-next-height-suc : (h : ℕ) → next-height h ≤ suc h
+pub next-height-suc : (h : ℕ) → next-height h ≤ suc h
 unfolding next-height
 next-height-suc h = lesser-le-first (suc h) max-height
 
@@ -95,7 +95,7 @@ after-below s cs n b a c = let p = past-below (take (s .limit) cs) (s .next) n b
 -- ---- the scan
 
 -- a list names the hash of the entry
-abbrev named : List Hash → Ask → Bool
+abbrev pub named : List Hash → Ask → Bool
 named hs a = any (same (a .hash)) hs
 
 module _ (l : Lent) (w : Window) (s : Scan) (taken : List Ask) (once : NamesOnce (hashes-in (l .chain))) where
