@@ -7,3 +7,4 @@ pub mod Nexts
 pub mod Entries
 pub mod Reaches
 pub mod Complete
+pub mod Left
