@@ -109,10 +109,6 @@ module _ (source : ℕ) (l : Lent) (now : ℕ) (w : Window) where
 
 -- ---- it is marked
 
-noted-frontier : (asks : List Ask) (owner now : ℕ) (v : Window) → noted asks owner now v .frontier ≡ v .frontier
-unfolding noted
-noted-frontier asks owner now v = refl
-
 pub marked-frontier : (asks : List Ask) (owner next now : ℕ) (v : Window) → v .frontier ≤ next → mark-requested asks owner next now v .frontier ≡ next
 unfolding mark-requested noted
 marked-frontier asks owner next now v b = elim (both (is-empty (v .queue .pending) && not (is-empty asks))) [

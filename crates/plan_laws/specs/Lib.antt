@@ -8,3 +8,4 @@ pub mod Entries
 pub mod Reaches
 pub mod Complete
 pub mod Left
+pub mod Plan

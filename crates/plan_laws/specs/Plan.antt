@@ -1,0 +1,138 @@
+-- REQUEST 02'S OWN SENTENCES ABOUT A PLAN, each a theorem of the definitions: of both calls, for every seat, clock and window, and for every chain,
+-- staged and refused list of any length. Where a theorem asks for more, it says so: the window sound (`Sound`, which every accepted call has), or
+-- hashes that are named once. Each may be read without its proof. Assumes nothing.
+use mathlib.Core.Path.{_≡_, refl, sym, ap, _∙_}
+use mathlib.Core.Logic.{_⊎_, inl, inr}
+use mathlib.Core.Bool.{Bool, true, false, not, _||_}
+use mathlib.Core.List.{List, [], _∷_, List·Memᴰ}
+use Prim.Native.Nat.{ℕ, _+_, _-_, _≤_, _<_}
+use native.Mathlib.Omega.{arith}
+use lib.Dec.{ltb, leb}
+use lib.ListN.{length, getD}
+use borrow.Author.Tests.{le-ltb, le-leb}
+use Rattle.model.specs.Numbers.{lesser, max-clock, max-height, max-pending, max-seat, clock-ok}
+use Rattle.model.specs.Lists.{any, all, every}
+use Rattle.model.specs.Hash.{same, hashes-in}
+use Rattle.model.specs.Window.{Window, with-clock}
+use Rattle.model.specs.Races.{is-empty}
+use Rattle.model.specs.LettingGo.{expire-pending}
+use Rattle.model.specs.Calls.{Ask, asks-in, mark-requested}
+use Rattle.model.specs.Refusals.{Change, requests, checks, listed-once, list-ok, request-refusal, report-ok, refusal-at}
+use Rattle.model.specs.Planning.{Lent, Proposal, ask, is-pending, is-staged, is-refused, maybe-rewind-request-frontier, swept-asks, next-peer-request, next-peer-request-allowing-retry, ask-hashes, ask-heights}
+use Rattle.model.specs.declared.Hash.{Hash}
+use Rattle.model.specs.declared.Entry.{Entry}
+use Rattle.model.specs.declared.Settings.{Settings}
+use Rattle.laws.specs.Numbers.{both, lesser-le-first, lesser-le-second}
+use Rattle.laws.specs.Every.{and-so, blocks-le}
+use Rattle.laws.specs.Entries.{Rising, Picks, each-map}
+use Rattle.laws.specs.Sound.{Sound}
+use Rattle.laws.specs.Fits.{LowAll, FitsChange}
+use Rattle.plan_laws.specs.Lists.{Every, every-map, every-at, none-any, none-all}
+use Rattle.plan_laws.specs.Named.{NamesOnce, hashes-of, times-hashes, once-listed}
+use Rattle.plan_laws.specs.Chain.{Stands}
+use Rattle.plan_laws.specs.Drafts.{Good, expire-every, swept-every}
+use Rattle.plan_laws.specs.Cases.{Plan, retry-plan, first-plan, step-of, plan-lets, rewind-steady}
+use Rattle.plan_laws.specs.Entries.{plan-good, plan-once, plan-where}
+use Rattle.plan_laws.specs.Complete.{is-planned, plan-complete}
+use Rattle.plan_laws.specs.Left.{plan-settings, plan-picks, plan-batch, plan-blocks, plan-left, plan-ge, plan-low, marked-frontier, asks-back, heights-low}
+
+-- the two calls: `next_peer_request` and `next_peer_request_allowing_retry`
+pub data Form : Type 0 where
+  first allowing-retry : Form
+
+abbrev pub plan : Form → ℕ → Lent → ℕ → Window → Proposal
+plan first source l now w = next-peer-request source l now w
+plan allowing-retry source l now w = next-peer-request-allowing-retry source l now w
+
+plan-is : (form : Form) (source : ℕ) (l : Lent) (now : ℕ) (w : Window) → Plan source l now w (plan form source l now w)
+plan-is first source l now w = first-plan source l now w
+plan-is allowing-retry source l now w = retry-plan source l now w
+
+module _ (form : Form) (source : ℕ) (l : Lent) (now : ℕ) (w : Window) where
+  -- P .window is the window as the call leaves it, P .gone what was swept, P .asks the entries in order, P .next the next height. No entries: no request
+  abbrev P : Proposal
+  P = plan form source l now w
+
+  it : Plan source l now w P
+  it = plan-is form source l now w
+
+  -- ---- "A PLAN NEVER NAMES A HASH THAT IS PENDING AS IT RETURNS, STAGED OR REFUSED, NOR A HEIGHT UNDER THE SERVABLE FLOOR"
+
+  pub never-pending : any (is-pending (P .window)) (P .asks) ≡ false
+  never-pending = none-any (is-pending (P .window)) (P .asks) (every-map (Good l (P .window)) (λ a. is-pending (P .window) a ≡ false) (λ a g. g .pending) (P .asks) (plan-good source l now w it))
+
+  pub never-staged : any (is-staged l) (P .asks) ≡ false
+  never-staged = none-any (is-staged l) (P .asks) (every-map (Good l (P .window)) (λ a. is-staged l a ≡ false) (λ a g. g .staged) (P .asks) (plan-good source l now w it))
+
+  pub never-refused : any (is-refused l) (P .asks) ≡ false
+  never-refused = none-any (is-refused l) (P .asks) (every-map (Good l (P .window)) (λ a. is-refused l a ≡ false) (λ a g. g .refused) (P .asks) (plan-good source l now w it))
+
+  pub never-under-the-floor : any (λ a. ltb (a .height) (l .floor)) (P .asks) ≡ false
+  never-under-the-floor =
+      none-any (λ a. ltb (a .height) (l .floor)) (P .asks)
+      (every-map (Good l (P .window)) (λ a. ltb (a .height) (l .floor) ≡ false) (λ a g. le-ltb (a .height) (l .floor) (g .floor)) (P .asks) (plan-good source l now w it))
+
+  -- ---- "AND ITS LENGTH STAYS IN THE BATCH LIMIT"
+
+  pub within-the-batch : length (P .asks) ≤ w .settings .«getdata_batch_limit»
+  within-the-batch = plan-batch source l now w it
+
+  -- with what is pending as it returns it stays within the blocks of the settings, where these are not passed already
+  pub within-the-blocks : length (P .asks) ≤ w .settings .«max_pending_blocks» - length (P .window .queue .pending)
+  within-the-blocks = plan-blocks source l now w it
+
+  -- ---- "A HASH ALREADY IN THE PLAN IS PASSED BY LIKE A PENDING ONE": no hash stands in it twice, whatever the lists name twice. The window's hashes
+  -- rise strictly, as in every sound one (two records of one hash, both swept, would both be named)
+
+  pub never-twice : Rising 0 (w .queue .pending) → NamesOnce (hashes-of (P .asks))
+  never-twice r h = omega (arith, times-hashes h (P .asks), plan-once source l now w r it h)
+
+  -- in the words of refusal 7
+  pub never-listed-twice : Rising 0 (w .queue .pending) → listed-once (P .asks) ≡ true
+  never-listed-twice r = once-listed (P .asks) (plan-once source l now w r it)
+
+  -- ---- each entry was swept just now, or stands on the chain at its height, within what the peer has
+
+  abbrev pub OnChain : Ask → Type 0
+  OnChain a = (a .height ≤ l .tip) × (a .height ≤ l .best) × (a .height < length (hashes-in (l .chain))) × (getD (hashes-in (l .chain)) (a .height) (a .hash) ≡ a .hash)
+
+  on-chain : (a : Ask) → Stands (hashes-in (l .chain)) (l .floor) (lesser (l .tip) (l .best)) a → OnChain a
+  on-chain a k = (omega (arith, k .high, lesser-le-first (l .tip) (l .best)), omega (arith, k .high, lesser-le-second (l .tip) (l .best)), k .there, k .own)
+
+  -- ---- "NO ENTRY IS OPENED UNTIL THE REQUEST IS MARKED": the pending entries are those of before without what went
+
+  pub nothing-opened : Picks (P .gone) (w .queue .pending) (P .window .queue .pending)
+  nothing-opened = plan-picks source l now w it
+
+  -- where there is a request, the window was swept and its frontier rewound, and nothing else
+  pub swept-and-rewound : is-empty (P .asks) ≡ false → (P .window ≡ maybe-rewind-request-frontier l (expire-pending now w .window)) × (P .gone ≡ expire-pending now w .gone)
+  swept-and-rewound e = plan-left source l now w it e
+
+  -- ---- "A PLAN MARKED AT ONCE FOR THE SAME SEAT IS NOT REFUSED BY 7 OR 8, AND THE FRONTIER IS THEN THE PLAN'S NEXT HEIGHT"
+
+  module _ (g : Sound now w) where
+    pub left-sound : Sound now (P .window)
+    left-sound = plan-lets it g .sound
+
+    pub marked-at-once : request-refusal (P .asks) (P .window) ≡ 0
+    unfolding request-refusal list-ok every is-pending
+    marked-at-once =
+        let v = P .window in
+        let free = none-all (is-pending v) (P .asks) (every-map (Good l v) (λ a. is-pending v a ≡ false) (λ a k. k .pending) (P .asks) (plan-good source l now w it)) in
+        let fits : length (v .queue .pending) + length (P .asks) ≤ max-pending = omega (arith, within-the-blocks, blocks-le (w .settings) (g .settings), left-sound .queue .few) in
+        rw (and-so free (and-so (never-listed-twice (g .queue .rising)) refl), le-leb (length (v .queue .pending) + length (P .asks)) max-pending fits)
+
+  pub next-is-the-frontier : is-empty (P .asks) ≡ false → mark-requested (P .asks) source (P .next) now (P .window) .frontier ≡ P .next
+  next-is-the-frontier e = marked-frontier (P .asks) source (P .next) now (P .window) (plan-ge source l now w it e)
+
+  -- in two lists, as the plan is lent and a request is made
+  pub handed-on : asks-in (ask-hashes (P .asks)) (ask-heights (P .asks)) ≡ P .asks
+  handed-on = asks-back (P .asks)
+
+  -- ---- "ON LISTS THAT NAME NO HASH TWICE NOTHING THAT COULD BE ASKED FOR IS LEFT OUT BETWEEN THE SCAN'S FIRST HEIGHT AND THE NEXT HEIGHT". The scan
+  -- begins at the greatest of start, frontier and floor. A hash of the chain at a height n from there to below the next height is pending as the plan
+  -- returns, or staged, or in the plan; so a refused one that is neither is not below the next height. (Without a request the next height is 0.)
+
+  pub nothing-left-out : NamesOnce (hashes-in (l .chain)) → (x : Hash) (n : ℕ) → l .start ≤ n → P .window .frontier ≤ n → l .floor ≤ n → n < P .next → n < length (hashes-in (l .chain))
+      → let a = ask (getD (hashes-in (l .chain)) n x) n in (is-pending (P .window) a || is-staged l a || is-planned (P .asks) (a .hash)) ≡ true
+  nothing-left-out once x n s f b c d = plan-complete source l now w it once x n s f b c d
