@@ -1,5 +1,5 @@
 -- The ways in which a plan is made: none without a sweep, none after it, or one of three over the swept and rewound window. Assumes nothing.
-use mathlib.Core.Path.{_≡_, refl}
+use mathlib.Core.Path.{_≡_, refl, ap}
 use mathlib.Core.Logic.{inl, inr}
 use mathlib.Core.Bool.{Bool, true, cond, _&&_, _||_}
 use mathlib.Core.List.{List, [], _∷_, _++_}
@@ -10,7 +10,7 @@ use lib.ListN.{take, drop}
 use borrow.Author.Tests.{leb-true, ltb-true}
 use Rattle.model.specs.Numbers.{greater, next-height, max-height}
 use Rattle.model.specs.Hash.{hashes-in}
-use Rattle.model.specs.Window.{Window, Step, stay, after}
+use Rattle.model.specs.Window.{Window, Step, stay, after, with-frontier}
 use Rattle.model.specs.Time.{peer-has-expired-pending}
 use Rattle.model.specs.Cooling.{peer-in-staller-cooldown}
 use Rattle.model.specs.Capacity.{Capacity, no-capacity, capacity, batch-limit, byte-capacity, compute-request-capacity}
@@ -113,19 +113,15 @@ module _ (t : Step) (next : ℕ) where
   named-next (a ∷ asks) = refl
 
 -- rewinding changes the frontier alone
-pub rewind-queue : (l : Lent) (w : Window) → maybe-rewind-request-frontier l w .queue ≡ w .queue
+pub rewind-is : (l : Lent) (w : Window) → maybe-rewind-request-frontier l w ≡ with-frontier (maybe-rewind-request-frontier l w .frontier) w
 unfolding maybe-rewind-request-frontier
-rewind-queue l w = elim (both (ltb (l .start) (w .frontier) && is-first-open l w (drop (l .start) (hashes-in (l .chain))))) [
+rewind-is l w = elim (both (ltb (l .start) (w .frontier) && is-first-open l w (drop (l .start) (hashes-in (l .chain))))) [
   | inl q ↦ rw q
   | inr q ↦ rw q
 ]
 
-pub rewind-settings : (l : Lent) (w : Window) → maybe-rewind-request-frontier l w .settings ≡ w .settings
-unfolding maybe-rewind-request-frontier
-rewind-settings l w = elim (both (ltb (l .start) (w .frontier) && is-first-open l w (drop (l .start) (hashes-in (l .chain))))) [
-  | inl q ↦ rw q
-  | inr q ↦ rw q
-]
+pub rewind-queue : (l : Lent) (w : Window) → maybe-rewind-request-frontier l w .queue ≡ w .queue
+rewind-queue l w = ap (λ (v : Window). v .queue) (rewind-is l w)
 
 pub rewind-steady : {c : ℕ} (l : Lent) (w : Window) → Sound c w → Steady c w (maybe-rewind-request-frontier l w)
 unfolding maybe-rewind-request-frontier

@@ -3,7 +3,8 @@ use mathlib.Core.Path.{_≡_, refl, sym, ap, _∙_}
 use mathlib.Core.Logic.{inl, inr}
 use mathlib.Core.Bool.{Bool, true, false, cond, not, _||_}
 use mathlib.Core.List.{List, [], _∷_, map}
-use Prim.Native.Nat.{ℕ, zero, suc, _+_, _-_, _≤_, _<_}
+use Prim.Native.Nat.{ℕ, zero, suc, _+_, _-_, _*_, _≤_, _<_}
+use native.Mathlib.Nat.{zero-mul, suc-mul}
 use native.Mathlib.Omega.{arith}
 use lib.Dec.{eqb, ltb, leb}
 use lib.ListN.{length}
@@ -15,7 +16,7 @@ use Rattle.model.specs.Races.{insert-by-height, by-height}
 use Rattle.model.specs.LettingGo.{if-gone, gone, extract, sweep-reason, expire-pending}
 use Rattle.model.specs.Time.{effective-owner-timeout, active}
 use Rattle.model.specs.Calls.{Ask}
-use Rattle.model.specs.Planning.{Lent, ask, is-pending, is-staged, is-refused, is-open, Draft, lower-of, swept-asks, expired-request-entries}
+use Rattle.model.specs.Planning.{Lent, ask, is-pending, is-staged, is-refused, is-open, Draft, draft, and-ask, lower-of, swept-asks, expired-request-entries}
 use Rattle.model.specs.declared.Hash.{Hash}
 use Rattle.model.specs.declared.Entry.{Entry}
 use Rattle.model.specs.declared.Release.{Release}
@@ -38,58 +39,61 @@ pub open-is : (l : Lent) (w : Window) (a : Ask) → is-open l w a ≡ true → (
 unfolding is-open
 open-is l w a e = or-false (is-pending w a) (is-staged l a) (not-true (is-pending w a || is-staged l a) e)
 
--- ---- some of the asks ks: up to `room` of them, in order
+-- ---- some of the asks ks: up to `room` of them, in order, each for the mean of the bytes
 
-pub record Drawn (l : Lent) (w : Window) (ks : List Ask) (room : ℕ) (xs : List Ask) : Type 1 where
-  pub good : Every (Good l w) xs
-  pub few : length xs ≤ room
-  pub no-more : (h : Hash) → times h xs ≤ times h ks
-  pub of : (P : Ask → Type 0) → Every P ks → Every P xs
+pub record Drawn (l : Lent) (w : Window) (ks : List Ask) (room bytes : ℕ) (d : Draft) : Type 1 where
+  pub good : Every (Good l w) (d .asks)
+  pub few : length (d .asks) ≤ room
+  pub spent : length (d .asks) * w .mean + d .bytes ≤ bytes
+  pub no-more : (h : Hash) → times h (d .asks) ≤ times h ks
+  pub of : (P : Ask → Type 0) → Every P ks → Every P (d .asks)
 
 module _ (l : Lent) (w : Window) where
-  drawn-none : (ks : List Ask) (room : ℕ) → Drawn l w ks room []
+  drawn-none : (ks : List Ask) (room bytes : ℕ) (low : Height) → Drawn l w ks room bytes (draft [] bytes low)
   unfolding count
-  drawn-none ks room = record { good = tt; few = omega arith; no-more = λ h. omega arith; of = λ P p. tt }
+  drawn-none ks room bytes low = record { good = tt; few = omega arith; spent = omega (arith, zero-mul (w .mean)); no-more = λ h. omega arith; of = λ P p. tt }
 
-  drawn-pass : (a : Ask) (ks xs : List Ask) (room : ℕ) → Drawn l w ks room xs → Drawn l w (a ∷ ks) room xs
+  drawn-pass : (a : Ask) (ks : List Ask) (room bytes : ℕ) {d : Draft} → Drawn l w ks room bytes d → Drawn l w (a ∷ ks) room bytes d
   unfolding count
-  drawn-pass a ks xs room d = record {
-    good = d .good;
-    few = d .few;
+  drawn-pass a ks room bytes k = record {
+    good = k .good;
+    few = k .few;
+    spent = k .spent;
     no-more = λ h. elim (both (same h (a .hash))) [
-      | inl e ↦ rw e (omega (arith, d .no-more h))
-      | inr e ↦ rw e (d .no-more h)
+      | inl e ↦ rw e (omega (arith, k .no-more h))
+      | inr e ↦ rw e (k .no-more h)
     ];
-    of = λ P p. d .of P (p .1);
+    of = λ P p. k .of P (p .1);
   }
 
-  drawn-pick : (a : Ask) (ks xs : List Ask) (room : ℕ) → 0 < room → Good l w a → Drawn l w ks (room - 1) xs → Drawn l w (a ∷ ks) room (a ∷ xs)
+  drawn-pick : (a : Ask) (ks : List Ask) (room bytes : ℕ) {d : Draft} → 0 < room → w .mean ≤ bytes → Good l w a → Drawn l w ks (room - 1) (bytes - w .mean) d → Drawn l w (a ∷ ks) room bytes (and-ask a d)
   unfolding count
-  drawn-pick a ks xs room b g d = record {
-    good = (g, d .good);
-    few = omega (arith, d .few);
+  drawn-pick a ks room bytes {d} b m g k = record {
+    good = (g, k .good);
+    few = omega (arith, k .few);
+    spent = omega (arith, k .spent, suc-mul (length (d .asks)) (w .mean));
     no-more = λ h. elim (both (same h (a .hash))) [
-      | inl e ↦ rw e (omega (arith, d .no-more h))
-      | inr e ↦ rw e (d .no-more h)
+      | inl e ↦ rw e (omega (arith, k .no-more h))
+      | inr e ↦ rw e (k .no-more h)
     ];
-    of = λ P p. (p .0, d .of P (p .1));
+    of = λ P p. (p .0, k .of P (p .1));
   }
 
-  pub expired-drawn : (ks : List Ask) (room bytes : ℕ) (low : Height) → Drawn l w ks room (expired-request-entries l w ks room bytes low .asks)
+  pub expired-drawn : (ks : List Ask) (room bytes : ℕ) (low : Height) → Drawn l w ks room bytes (expired-request-entries l w ks room bytes low)
   unfolding expired-request-entries
-  expired-drawn [] room bytes low = drawn-none [] room
+  expired-drawn [] room bytes low = drawn-none [] room bytes low
   expired-drawn (a ∷ ks) room bytes low = elim (both (eqb room 0 || ltb bytes (w .mean))) [
-    | inl q ↦ rw q (drawn-none (a ∷ ks) room)
+    | inl q ↦ rw q (drawn-none (a ∷ ks) room bytes low)
     | inr q ↦ rw q (elim (both (is-refused l a)) [
-      | inl r ↦ rw r (drawn-pass a ks _ room (expired-drawn ks room bytes (lower-of low (a .height))))
+      | inl r ↦ rw r (drawn-pass a ks room bytes (expired-drawn ks room bytes (lower-of low (a .height))))
       | inr r ↦ rw r (elim (both (ltb (a .height) (l .floor) || not (is-open l w a))) [
-        | inl u ↦ rw u (drawn-pass a ks _ room (expired-drawn ks room bytes low))
+        | inl u ↦ rw u (drawn-pass a ks room bytes (expired-drawn ks room bytes low))
         | inr u ↦
-            let some = eqb-false room 0 (or-false (eqb room 0) (ltb bytes (w .mean)) q .0) in
-            let z = or-false (ltb (a .height) (l .floor)) (not (is-open l w a)) u in
-            let o = open-is l w a (not-false (is-open l w a) (z .1)) in
-            let g : Good l w a = record { pending = o .0; staged = o .1; refused = r; floor = ltb-false (a .height) (l .floor) (z .0) } in
-            rw u (drawn-pick a ks _ room (omega (arith, some)) g (expired-drawn ks (room - 1) (bytes - w .mean) low))
+            let z = or-false (eqb room 0) (ltb bytes (w .mean)) q in
+            let k = or-false (ltb (a .height) (l .floor)) (not (is-open l w a)) u in
+            let o = open-is l w a (not-false (is-open l w a) (k .1)) in
+            let g : Good l w a = record { pending = o .0; staged = o .1; refused = r; floor = ltb-false (a .height) (l .floor) (k .0) } in
+            rw u (drawn-pick a ks room bytes (omega (arith, eqb-false room 0 (z .0))) (ltb-false bytes (w .mean) (z .1)) g (expired-drawn ks (room - 1) (bytes - w .mean) low))
       ])
     ])
   ]

@@ -1,9 +1,10 @@
 -- The entries of a plan: each may be asked for, none twice, no more than the batch, and where they come from. Assumes nothing.
-use mathlib.Core.Path.{_≡_, refl, sym, ap, _∙_}
+use mathlib.Core.Path.{_≡_, refl, sym, ap, subst, _∙_}
 use mathlib.Core.Logic.{inl, inr}
 use mathlib.Core.Bool.{Bool, true, false, not, _||_, true≢false, false≢true}
 use mathlib.Core.List.{List, [], _∷_, _++_}
-use Prim.Native.Nat.{ℕ, suc, _+_, _-_, _≤_, _<_}
+use Prim.Native.Nat.{ℕ, suc, _+_, _-_, _*_, _/_, _≤_, _<_}
+use native.Mathlib.Nat.{zero-mul, add-mul, mul-le-mul-right, div-mul-le-self}
 use native.Mathlib.Omega.{arith}
 use lib.ListN.{length, take, length-append, length-take}
 use borrow.Author.Tests.{not-true}
@@ -27,7 +28,7 @@ use Rattle.plan_laws.specs.Lists.{Every, every-map, every-both, every-ap
 use Rattle.plan_laws.specs.Named.{times, Once, hashes-of, any-hashes, first-named-times, first-named-every, first-named-length}
 use Rattle.plan_laws.specs.Chain.{Stands, contiguous-stands, contiguous-few}
 use Rattle.plan_laws.specs.Drafts.{Good, open-is, Drawn, expired-drawn, swept-once}
-use Rattle.plan_laws.specs.Cases.{From, stretch, scanned, retried, Made, made, the-batch, the-draft, the-step, the-scan, Plan, unasked, no-room, room, named-asks, named-window, rewind-queue}
+use Rattle.plan_laws.specs.Cases.{From, stretch, scanned, retried, Made, made, the-batch, the-draft, the-step, the-scan, Plan, unasked, no-room, room, named-asks, named-window, rewind-is, rewind-queue}
 
 -- ---- empty lists name nothing
 
@@ -130,12 +131,12 @@ module _ (l : Lent) (t : Step) (s : Scan) (d : Draft) where
       let last = lesser (s .height + (s .limit - 1)) (s .tip) in
       omega (arith, first-named-length [] (contiguous-request-entries (s .height) last (l .chain)), contiguous-few (s .height) last (l .chain), lesser-le-first (s .height + (s .limit - 1)) (s .tip))
 
-  pub from-few : {asks : List Ask} {next : ℕ} (batch : ℕ) → length (d .asks) ≤ batch → s .limit ≤ batch - length (d .asks) → From l t s d asks next → length asks ≤ batch
-  from-few batch a b (stretch c x k) = omega (arith, stretch-few k)
-  from-few batch a b (scanned x k) =
+  pub from-few : {asks : List Ask} {next : ℕ} → From l t s d asks next → length asks ≤ length (d .asks) + s .limit
+  from-few (stretch c x k) = omega (arith, stretch-few k)
+  from-few (scanned x k) =
       let cs = candidates l (t .window) s (d .asks) in
       omega (arith, length-append (d .asks) (take (s .limit) cs), length-take (s .limit) cs)
-  from-few batch a b retried = a
+  from-few retried = omega arith
 
   -- ---- none twice
 
@@ -172,7 +173,7 @@ unfolding is-pending
 good-alike l w v e a g = record { pending = rw e (g .pending); staged = g .staged; refused = g .refused; floor = g .floor }
 
 module _ (source : ℕ) (l : Lent) (now : ℕ) (w : Window) where
-  drawn : Drawn l (expire-pending now w .window) (swept-asks (expire-pending now w .gone)) (the-batch source l now w) (the-draft source l now w .asks)
+  drawn : Drawn l (expire-pending now w .window) (swept-asks (expire-pending now w .gone)) (the-batch source l now w) (byte-capacity (l .bytes) (expire-pending now w .window)) (the-draft source l now w)
   drawn =
       let t = expire-pending now w in
       expired-drawn l (t .window) (swept-asks (t .gone)) (the-batch source l now w) (byte-capacity (l .bytes) (t .window)) Unknown
@@ -197,7 +198,23 @@ module _ (source : ℕ) (l : Lent) (now : ℕ) (w : Window) where
       let t = the-step source l now w in
       let d = the-draft source l now w in
       let batch = the-batch source l now w in
-      rw (named-asks t next asks) (from-few l t (the-scan source l now w) d batch (drawn .few) (lesser-le-first (batch - length (d .asks)) _) f)
+      rw (named-asks t next asks) (omega (arith, from-few l t (the-scan source l now w) d f, drawn .few, lesser-le-first (batch - length (d .asks)) (d .bytes / t .window .mean)))
+
+  -- the bytes of its entries, by the mean
+  pub plan-spends : {P : Proposal} → Plan source l now w P → length (P .asks) * expire-pending now w .window .mean ≤ byte-capacity (l .bytes) (expire-pending now w .window)
+  unfolding scan-of
+  plan-spends unasked = omega (arith, zero-mul (expire-pending now w .window .mean))
+  plan-spends no-room = omega (arith, zero-mul (expire-pending now w .window .mean))
+  plan-spends (room (made {asks} {next} f)) =
+      let t = the-step source l now w in
+      let d = the-draft source l now w in
+      let m = expire-pending now w .window .mean in
+      let limit = the-scan source l now w .limit in
+      let same-mean : t .window .mean ≡ m = ap (λ (v : Window). v .mean) (rewind-is l (expire-pending now w .window)) in
+      let by-bytes : limit ≤ d .bytes / m =
+          subst (λ (k : ℕ). limit ≤ d .bytes / k) same-mean (lesser-le-second (the-batch source l now w - length (d .asks)) (d .bytes / t .window .mean)) in
+      let all : length asks * m ≤ (length (d .asks) + limit) * m = mul-le-mul-right m (from-few l t (the-scan source l now w) d f) in
+      rw (named-asks t next asks) (omega (arith, add-mul (length (d .asks)) limit m, mul-le-mul-right m by-bytes, div-mul-le-self (d .bytes) m, drawn .spent))
 
   pub plan-once : {P : Proposal} → Rising 0 (w .queue .pending) → Plan source l now w P → Once (P .asks)
   unfolding count

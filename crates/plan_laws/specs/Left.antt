@@ -23,7 +23,7 @@ use Rattle.laws.specs.Entries.{Picks, done, sift}
 use Rattle.laws.specs.Queues.{resets-pending}
 use Rattle.laws.specs.Fits.{LowAll}
 use Rattle.plan_laws.specs.Lists.{Every}
-use Rattle.plan_laws.specs.Cases.{From, Made, made, the-batch, the-draft, the-step, the-scan, Plan, unasked, no-room, room, named-asks, named-window, named-gone, rewind-queue, rewind-settings}
+use Rattle.plan_laws.specs.Cases.{From, Made, made, the-batch, the-draft, the-step, the-scan, Plan, unasked, no-room, room, named-asks, named-window, named-gone, rewind-is, rewind-queue}
 use Rattle.plan_laws.specs.Nexts.{from-ge, from-low}
 use Rattle.plan_laws.specs.Entries.{plan-few}
 
@@ -61,7 +61,7 @@ module _ (source : ℕ) (l : Lent) (now : ℕ) (w : Window) where
   plan-settings no-room = expire-settings now w
   plan-settings (room (made {asks} {next} f)) =
       let t = the-step source l now w in
-      ap (λ (v : Window). v .settings) (named-window t next asks) ∙ rewind-settings l (expire-pending now w .window) ∙ expire-settings now w
+      ap (λ (v : Window). v .settings) (named-window t next asks) ∙ ap (λ (v : Window). v .settings) (rewind-is l (expire-pending now w .window)) ∙ expire-settings now w
 
   pub plan-picks : {P : Proposal} → Plan source l now w P → Picks (P .gone) (w .queue .pending) (P .window .queue .pending)
   plan-picks unasked = done
