@@ -1,18 +1,19 @@
 -- What a plan leaves: settings as they were, pending entries without those that went, room for its entries, a frontier that its next height is no
 -- lower than. Assumes nothing.
-use mathlib.Core.Path.{_≡_, refl, sym, ap, _∙_}
+use mathlib.Core.Path.{_≡_, refl, sym, ap, subst, _∙_}
 use mathlib.Core.Logic.{inl, inr}
 use mathlib.Core.Bool.{Bool, true, false, not, cond, _&&_, true≢false}
 use mathlib.Core.List.{List, [], _∷_}
-use Prim.Native.Nat.{ℕ, suc, _+_, _-_, _≤_, _<_}
+use Prim.Native.Nat.{ℕ, suc, _+_, _-_, _*_, _≤_, _<_}
+use native.Mathlib.Nat.{zero-mul}
 use native.Mathlib.Omega.{arith}
 use lib.ListN.{length}
 use Rattle.model.specs.Numbers.{lesser, greater, max-height}
-use Rattle.model.specs.Window.{Window, Step, stay, queue, with-attempted}
+use Rattle.model.specs.Window.{Window, Queue, Step, queue, with-queue}
 use Rattle.model.specs.Records.{pending-count-for}
 use Rattle.model.specs.Time.{effective-owner-timeout, active}
 use Rattle.model.specs.LettingGo.{gone, kept, total-after, extract, sweep-reason, resets, expire-pending}
-use Rattle.model.specs.Capacity.{effective-peer-inflight, batch-limit}
+use Rattle.model.specs.Capacity.{effective-peer-inflight, batch-limit, byte-capacity}
 use Rattle.model.specs.Races.{is-empty}
 use Rattle.model.specs.Calls.{Ask, asks-in, noted, mark-requested}
 use Rattle.model.specs.Planning.{Lent, Proposal, ask, ask-hashes, ask-heights, maybe-rewind-request-frontier, non-empty-request, no-request, scan-of}
@@ -25,7 +26,7 @@ use Rattle.laws.specs.Fits.{LowAll}
 use Rattle.plan_laws.specs.Lists.{Every}
 use Rattle.plan_laws.specs.Cases.{From, Made, made, the-batch, the-draft, the-step, the-scan, Plan, unasked, no-room, room, named-asks, named-window, named-gone, rewind-is, rewind-queue}
 use Rattle.plan_laws.specs.Nexts.{from-ge, from-low}
-use Rattle.plan_laws.specs.Entries.{plan-few}
+use Rattle.plan_laws.specs.Entries.{plan-few, plan-spends, plan-where}
 
 -- ---- the sweep
 
@@ -44,14 +45,23 @@ expire-picks now w =
 
 -- ---- the limits of the batch
 
-batch-le : (source n : ℕ) (w : Window) → (batch-limit source n w ≤ w .settings .«getdata_batch_limit») × (batch-limit source n w ≤ w .settings .«max_pending_blocks» - length (w .queue .pending))
+pub record Within (batch source : ℕ) (w : Window) : Type 0 where
+  pub batch-limit : batch ≤ w .settings .«getdata_batch_limit»
+  pub blocks : batch ≤ w .settings .«max_pending_blocks» - length (w .queue .pending)
+  pub peer : batch ≤ effective-peer-inflight w - pending-count-for source (w .queue .pending)
+
+batch-within : (source n : ℕ) (w : Window) → Within (batch-limit source n w) source w
 unfolding batch-limit
-batch-le source n w =
+batch-within source n w =
     let a = w .settings .«getdata_batch_limit» in
     let b = effective-peer-inflight w - pending-count-for source (w .queue .pending) in
     let c = w .settings .«max_pending_blocks» - length (w .queue .pending) in
     let d = lesser-le-first (lesser a b) (lesser c n) in
-    (omega (arith, lesser-le-first a b), omega (arith, lesser-le-second (lesser a b) (lesser c n), lesser-le-first c n))
+    record {
+      batch-limit = omega (arith, lesser-le-first a b);
+      blocks = omega (arith, lesser-le-second (lesser a b) (lesser c n), lesser-le-first c n);
+      peer = omega (arith, lesser-le-second a b);
+    }
 
 -- ---- a plan
 
@@ -70,21 +80,40 @@ module _ (source : ℕ) (l : Lent) (now : ℕ) (w : Window) where
       let t = the-step source l now w in
       rw (named-window t next asks, named-gone t next asks, rewind-queue l (expire-pending now w .window)) (expire-picks now w)
 
-  pub plan-batch : {P : Proposal} → Plan source l now w P → length (P .asks) ≤ w .settings .«getdata_batch_limit»
-  plan-batch p =
-      let b = ap (λ (s : Settings). s .«getdata_batch_limit») (expire-settings now w) in
-      omega (arith, plan-few source l now w p, batch-le source (l .count) (expire-pending now w .window) .0)
+  -- the queue as the sweep left it, settings, fan-out and mean as they were: so are the limits
+  swept-limits : (queue : Queue) → queue ≡ expire-pending now w .window .queue → Within (the-batch source l now w) source (with-queue queue w)
+  unfolding expire-pending extract effective-peer-inflight
+  swept-limits queue e = let k = batch-within source (l .count) (expire-pending now w .window) in rw e (record { batch-limit = k .batch-limit; blocks = k .blocks; peer = k .peer })
 
-  pub plan-blocks : {P : Proposal} → Plan source l now w P → length (P .asks) ≤ w .settings .«max_pending_blocks» - length (P .window .queue .pending)
-  plan-blocks unasked = omega arith
-  plan-blocks no-room = omega arith
-  plan-blocks (room (made {asks} {next} f)) =
+  fewer : (n : ℕ) (v : Window) → n ≤ the-batch source l now w → Within (the-batch source l now w) source v → Within n source v
+  fewer n v b k = record { batch-limit = omega (arith, k .batch-limit); blocks = omega (arith, k .blocks); peer = omega (arith, k .peer) }
+
+  pub plan-within : {P : Proposal} → Plan source l now w P → Within (length (P .asks)) source (with-queue (P .window .queue) w)
+  plan-within unasked = record { batch-limit = omega arith; blocks = omega arith; peer = omega arith }
+  plan-within no-room = record { batch-limit = omega arith; blocks = omega arith; peer = omega arith }
+  plan-within (room (made {asks} {next} f)) =
+      let t = the-step source l now w in
+      let q = ap (λ (v : Window). v .queue) (named-window t next asks) ∙ rewind-queue l (expire-pending now w .window) in
+      let P = non-empty-request t asks next in
+      fewer (length (P .asks)) (with-queue (P .window .queue) w) (plan-few source l now w (room (made f))) (swept-limits (P .window .queue) q)
+
+  expire-mean : expire-pending now w .window .mean ≡ w .mean
+  unfolding expire-pending extract
+  expire-mean = refl
+
+  pub plan-bytes : {P : Proposal} → Plan source l now w P → length (P .asks) * w .mean ≤ w .settings .«max_pending_bytes» - P .window .queue .total
+  unfolding byte-capacity
+  plan-bytes unasked = omega (arith, zero-mul (w .mean))
+  plan-bytes no-room = omega (arith, zero-mul (w .mean))
+  plan-bytes (room (made {asks} {next} f)) =
       let v = expire-pending now w .window in
       let t = the-step source l now w in
-      let few = plan-few source l now w (room (made f)) in
-      let b = ap (λ (s : Settings). s .«max_pending_blocks») (expire-settings now w) in
-      let n : length (non-empty-request t asks next .window .queue .pending) ≡ length (v .queue .pending) = rw (named-window t next asks, rewind-queue l v) in
-      omega (arith, batch-le source (l .count) v .1)
+      let q = ap (λ (x : Window). x .queue .total) (named-window t next asks) ∙ ap (λ (x : Queue). x .total) (rewind-queue l v) in
+      let b = ap (λ (x : Settings). x .«max_pending_bytes») (expire-settings now w) in
+      let spends = plan-spends source l now w (room (made f)) in
+      let spends-so : length (non-empty-request t asks next .asks) * w .mean ≤ lesser (v .settings .«max_pending_bytes» - v .queue .total) (l .bytes) =
+          subst (λ (m : ℕ). length (non-empty-request t asks next .asks) * m ≤ lesser (v .settings .«max_pending_bytes» - v .queue .total) (l .bytes)) expire-mean spends in
+      omega (arith, lesser-le-first (v .settings .«max_pending_bytes» - v .queue .total) (l .bytes))
 
   -- where there is a request, both parts of the sweep stand, rewound
   pub plan-left : {P : Proposal} → Plan source l now w P → is-empty (P .asks) ≡ false

@@ -34,7 +34,7 @@ use Rattle.plan_laws.specs.Drafts.{Good, expire-every, swept-every}
 use Rattle.plan_laws.specs.Cases.{Plan, retry-plan, first-plan, step-of, plan-lets, rewind-steady}
 use Rattle.plan_laws.specs.Entries.{plan-good, plan-once, plan-where}
 use Rattle.plan_laws.specs.Complete.{is-planned, plan-complete}
-use Rattle.plan_laws.specs.Left.{plan-settings, plan-picks, plan-batch, plan-blocks, plan-left, plan-ge, plan-low, marked-frontier, asks-back, heights-low}
+use Rattle.plan_laws.specs.Left.{plan-settings, plan-picks, plan-within, plan-bytes, plan-left, plan-ge, plan-low, marked-frontier, asks-back, heights-low}
 
 -- the two calls: `next_peer_request` and `next_peer_request_allowing_retry`
 pub data Form : Type 0 where
@@ -75,11 +75,11 @@ module _ (form : Form) (source : ℕ) (l : Lent) (now : ℕ) (w : Window) where
   -- ---- "AND ITS LENGTH STAYS IN THE BATCH LIMIT"
 
   pub within-the-batch : length (P .asks) ≤ w .settings .«getdata_batch_limit»
-  within-the-batch = plan-batch source l now w it
+  within-the-batch = plan-within source l now w it .batch-limit
 
   -- with what is pending as it returns it stays within the blocks of the settings, where these are not passed already
   pub within-the-blocks : length (P .asks) ≤ w .settings .«max_pending_blocks» - length (P .window .queue .pending)
-  within-the-blocks = plan-blocks source l now w it
+  within-the-blocks = plan-within source l now w it .blocks
 
   -- ---- "A HASH ALREADY IN THE PLAN IS PASSED BY LIKE A PENDING ONE": no hash stands in it twice, whatever the lists name twice. The window's hashes
   -- rise strictly, as in every sound one (two records of one hash, both swept, would both be named)
