@@ -1,14 +1,18 @@
 -- What a plan leaves: settings as they were, pending entries without those that went, room for its entries, a frontier that its next height is no
 -- lower than. Assumes nothing.
 use mathlib.Core.Path.{_≡_, refl, sym, ap, subst, _∙_}
-use mathlib.Core.Logic.{inl, inr}
+use mathlib.Core.Logic.{_⊎_, inl, inr}
 use mathlib.Core.Bool.{Bool, true, false, not, cond, _&&_, true≢false}
-use mathlib.Core.List.{List, [], _∷_}
+use mathlib.Core.List.{List, [], _∷_, List·Memᴰ}
 use Prim.Native.Nat.{ℕ, suc, _+_, _-_, _*_, _≤_, _<_}
 use native.Mathlib.Nat.{zero-mul}
 use native.Mathlib.Omega.{arith}
+use lib.Dec.{eqb}
 use lib.ListN.{length}
+use borrow.Author.Tests.{eq-eqb}
 use Rattle.model.specs.Numbers.{lesser, greater, max-height}
+use Rattle.model.specs.Lists.{any}
+use Rattle.model.specs.Hash.{same, hashes-in}
 use Rattle.model.specs.Window.{Window, Queue, Step, queue, with-queue}
 use Rattle.model.specs.Records.{pending-count-for}
 use Rattle.model.specs.Time.{effective-owner-timeout, active}
@@ -17,13 +21,18 @@ use Rattle.model.specs.Capacity.{effective-peer-inflight, batch-limit, byte-cap
 use Rattle.model.specs.Races.{is-empty}
 use Rattle.model.specs.Calls.{Ask, asks-in, noted, mark-requested}
 use Rattle.model.specs.Planning.{Lent, Proposal, ask, ask-hashes, ask-heights, maybe-rewind-request-frontier, non-empty-request, no-request, scan-of}
+use Rattle.model.specs.declared.Release.{Release}
 use Rattle.model.specs.declared.Settings.{Settings}
 use Rattle.model.specs.declared.Source.the-variants.{Missing}
 use Rattle.laws.specs.Numbers.{both, lesser-le-first, lesser-le-second, greater-second}
+use Rattle.laws.specs.Every.{and-so}
 use Rattle.laws.specs.Entries.{Picks, done, sift}
 use Rattle.laws.specs.Queues.{resets-pending}
 use Rattle.laws.specs.Fits.{LowAll}
-use Rattle.plan_laws.specs.Lists.{Every}
+use Rattle.plan_laws.specs.Lists.{Every, every-own, member-any}
+use Rattle.plan_laws.specs.Named.{same-self}
+use Rattle.plan_laws.specs.Chain.{Stands}
+use Rattle.plan_laws.specs.Drafts.{swept-every}
 use Rattle.plan_laws.specs.Cases.{From, Made, made, the-batch, the-draft, the-step, the-scan, Plan, unasked, no-room, room, named-asks, named-window, named-gone, rewind-is, rewind-queue}
 use Rattle.plan_laws.specs.Nexts.{from-ge, from-low}
 use Rattle.plan_laws.specs.Entries.{plan-few, plan-spends, plan-where}
@@ -43,12 +52,22 @@ expire-picks now w =
     let gs = gone goes (q .pending) in
     rw (resets-pending now gs (queue (total-after gs (q .total)) (kept goes (q .pending)) (q .starts) (q .bodies))) (sift goes (q .pending))
 
+-- an entry that went just now, at its height
+unfoldable pub was-swept : List Release → Ask → Bool
+was-swept gs a = any (λ g. same (g .entry .hash) (a .hash) && eqb (g .entry .height) (a .height)) gs
+
+swept-self : (gs : List Release) (g : Release) → List·Memᴰ g gs → was-swept gs (ask (g .entry .hash) (g .entry .height)) ≡ true
+unfolding was-swept
+swept-self gs g m =
+    member-any (λ (x : Release). same (x .entry .hash) (g .entry .hash) && eqb (x .entry .height) (g .entry .height)) g gs m
+    (and-so (same-self (g .entry .hash)) (eq-eqb (g .entry .height) (g .entry .height) refl))
+
 -- ---- the limits of the batch
 
-pub record Within (batch source : ℕ) (w : Window) : Type 0 where
-  pub batch-limit : batch ≤ w .settings .«getdata_batch_limit»
-  pub blocks : batch ≤ w .settings .«max_pending_blocks» - length (w .queue .pending)
-  pub peer : batch ≤ effective-peer-inflight w - pending-count-for source (w .queue .pending)
+pub record Within (n source : ℕ) (w : Window) : Type 0 where
+  pub batch : n ≤ w .settings .«getdata_batch_limit»
+  pub blocks : n ≤ w .settings .«max_pending_blocks» - length (w .queue .pending)
+  pub peer : n ≤ effective-peer-inflight w - pending-count-for source (w .queue .pending)
 
 batch-within : (source n : ℕ) (w : Window) → Within (batch-limit source n w) source w
 unfolding batch-limit
@@ -58,7 +77,7 @@ batch-within source n w =
     let c = w .settings .«max_pending_blocks» - length (w .queue .pending) in
     let d = lesser-le-first (lesser a b) (lesser c n) in
     record {
-      batch-limit = omega (arith, lesser-le-first a b);
+      batch = omega (arith, lesser-le-first a b);
       blocks = omega (arith, lesser-le-second (lesser a b) (lesser c n), lesser-le-first c n);
       peer = omega (arith, lesser-le-second a b);
     }
@@ -83,14 +102,14 @@ module _ (source : ℕ) (l : Lent) (now : ℕ) (w : Window) where
   -- the queue as the sweep left it, settings, fan-out and mean as they were: so are the limits
   swept-limits : (queue : Queue) → queue ≡ expire-pending now w .window .queue → Within (the-batch source l now w) source (with-queue queue w)
   unfolding expire-pending extract effective-peer-inflight
-  swept-limits queue e = let k = batch-within source (l .count) (expire-pending now w .window) in rw e (record { batch-limit = k .batch-limit; blocks = k .blocks; peer = k .peer })
+  swept-limits queue e = let k = batch-within source (l .count) (expire-pending now w .window) in rw e (record { batch = k .batch; blocks = k .blocks; peer = k .peer })
 
   fewer : (n : ℕ) (v : Window) → n ≤ the-batch source l now w → Within (the-batch source l now w) source v → Within n source v
-  fewer n v b k = record { batch-limit = omega (arith, k .batch-limit); blocks = omega (arith, k .blocks); peer = omega (arith, k .peer) }
+  fewer n v b k = record { batch = omega (arith, k .batch); blocks = omega (arith, k .blocks); peer = omega (arith, k .peer) }
 
   pub plan-within : {P : Proposal} → Plan source l now w P → Within (length (P .asks)) source (with-queue (P .window .queue) w)
-  plan-within unasked = record { batch-limit = omega arith; blocks = omega arith; peer = omega arith }
-  plan-within no-room = record { batch-limit = omega arith; blocks = omega arith; peer = omega arith }
+  plan-within unasked = record { batch = omega arith; blocks = omega arith; peer = omega arith }
+  plan-within no-room = record { batch = omega arith; blocks = omega arith; peer = omega arith }
   plan-within (room (made {asks} {next} f)) =
       let t = the-step source l now w in
       let q = ap (λ (v : Window). v .queue) (named-window t next asks) ∙ rewind-queue l (expire-pending now w .window) in
@@ -114,6 +133,17 @@ module _ (source : ℕ) (l : Lent) (now : ℕ) (w : Window) where
       let spends-so : length (non-empty-request t asks next .asks) * w .mean ≤ lesser (v .settings .«max_pending_bytes» - v .queue .total) (l .bytes) =
           subst (λ (m : ℕ). length (non-empty-request t asks next .asks) * m ≤ lesser (v .settings .«max_pending_bytes» - v .queue .total) (l .bytes)) expire-mean spends in
       omega (arith, lesser-le-first (v .settings .«max_pending_bytes» - v .queue .total) (l .bytes))
+
+  -- every entry went just now, or stands on the chain
+  pub plan-source : {P : Proposal} → Plan source l now w P
+      → Every (λ a. (was-swept (P .gone) a ≡ true) ⊎ Stands (hashes-in (l .chain)) (l .floor) (lesser (l .tip) (l .best)) a) (P .asks)
+  plan-source unasked = tt
+  plan-source no-room = tt
+  plan-source (room (made {asks} {next} f)) =
+      let t = the-step source l now w in
+      let gs = expire-pending now w .gone in
+      let Q : Ask → Type 0 = λ a. (was-swept gs a ≡ true) ⊎ Stands (hashes-in (l .chain)) (l .floor) (lesser (l .tip) (l .best)) a in
+      rw (named-gone t next asks) (plan-where source l now w Q (swept-every Q gs (every-own (λ (g : Release). Q (ask (g .entry .hash) (g .entry .height))) gs (λ g m. inl (swept-self gs g m)))) (λ a k. inr k) (room (made f)))
 
   -- where there is a request, both parts of the sweep stand, rewound
   pub plan-left : {P : Proposal} → Plan source l now w P → is-empty (P .asks) ≡ false

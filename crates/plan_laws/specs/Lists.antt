@@ -65,6 +65,10 @@ module _ {A : Type 0} where
     every-at x (y ∷ l) (List·Memᴰ·head e) a = subst P (sym e) (a .0)
     every-at x (y ∷ l) (List·Memᴰ·tail m) a = every-at x l m (a .1)
 
+    pub every-own : (l : List A) → ((x : A) → List·Memᴰ x l → P x) → Every P l
+    every-own [] f = tt
+    every-own (x ∷ l) f = (f x (List·Memᴰ·head refl), every-own l (λ y m. f y (List·Memᴰ·tail m)))
+
   module _ (p : A → Bool) where
     pub selected : (l : List A) → Every (λ x. p x ≡ true) (select p l)
     unfolding select

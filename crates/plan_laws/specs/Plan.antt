@@ -5,19 +5,23 @@ use mathlib.Core.Path.{_≡_, refl, sym, ap, _∙_}
 use mathlib.Core.Logic.{_⊎_, inl, inr}
 use mathlib.Core.Bool.{Bool, true, false, not, _||_}
 use mathlib.Core.List.{List, [], _∷_, List·Memᴰ}
-use Prim.Native.Nat.{ℕ, _+_, _-_, _≤_, _<_}
+use Prim.Native.Nat.{ℕ, _+_, _-_, _*_, _≤_, _<_}
 use native.Mathlib.Omega.{arith}
 use lib.Dec.{ltb, leb}
 use lib.ListN.{length, getD}
 use borrow.Author.Tests.{le-ltb, le-leb}
-use Rattle.model.specs.Numbers.{lesser, max-clock, max-height, max-pending, max-seat, clock-ok}
+use Rattle.model.specs.Numbers.{lesser, max-clock, max-height, max-pending, max-seat, clock-ok, read-clock}
 use Rattle.model.specs.Lists.{any, all, every}
 use Rattle.model.specs.Hash.{same, hashes-in}
 use Rattle.model.specs.Window.{Window, with-clock}
+use Rattle.model.specs.Records.{pending-count-for}
+use Rattle.model.specs.Capacity.{effective-peer-inflight}
 use Rattle.model.specs.Races.{is-empty}
 use Rattle.model.specs.LettingGo.{expire-pending}
 use Rattle.model.specs.Calls.{Ask, asks-in, mark-requested}
 use Rattle.model.specs.Refusals.{Change, requests, checks, listed-once, list-ok, request-refusal, report-ok, refusal-at}
+use Rattle.model.specs.Perform.{changed, requested}
+use Rattle.model.specs.Layout.{settings-ok}
 use Rattle.model.specs.Planning.{Lent, Proposal, ask, is-pending, is-staged, is-refused, maybe-rewind-request-frontier, swept-asks, next-peer-request, next-peer-request-allowing-retry, ask-hashes, ask-heights}
 use Rattle.model.specs.declared.Hash.{Hash}
 use Rattle.model.specs.declared.Entry.{Entry}
@@ -26,6 +30,7 @@ use Rattle.laws.specs.Numbers.{both, lesser-le-first, lesser-le-second}
 use Rattle.laws.specs.Every.{and-so, blocks-le}
 use Rattle.laws.specs.Entries.{Rising, Picks, each-map}
 use Rattle.laws.specs.Sound.{Sound}
+use Rattle.laws.specs.Lets.{expire-lets}
 use Rattle.laws.specs.Fits.{LowAll, FitsChange}
 use Rattle.plan_laws.specs.Lists.{Every, every-map, every-at, none-any, none-all}
 use Rattle.plan_laws.specs.Named.{NamesOnce, hashes-of, times-hashes, once-listed}
@@ -34,7 +39,7 @@ use Rattle.plan_laws.specs.Drafts.{Good, expire-every, swept-every}
 use Rattle.plan_laws.specs.Cases.{Plan, retry-plan, first-plan, step-of, plan-lets, rewind-steady}
 use Rattle.plan_laws.specs.Entries.{plan-good, plan-once, plan-where}
 use Rattle.plan_laws.specs.Complete.{is-planned, plan-complete}
-use Rattle.plan_laws.specs.Left.{plan-settings, plan-picks, plan-within, plan-bytes, plan-left, plan-ge, plan-low, marked-frontier, asks-back, heights-low}
+use Rattle.plan_laws.specs.Left.{was-swept, plan-picks, plan-within, plan-bytes, plan-source, plan-left, plan-ge, plan-low, marked-frontier, asks-back, heights-low}
 
 -- the two calls: `next_peer_request` and `next_peer_request_allowing_retry`
 pub data Form : Type 0 where
@@ -75,11 +80,22 @@ module _ (form : Form) (source : ℕ) (l : Lent) (now : ℕ) (w : Window) where
   -- ---- "AND ITS LENGTH STAYS IN THE BATCH LIMIT"
 
   pub within-the-batch : length (P .asks) ≤ w .settings .«getdata_batch_limit»
-  within-the-batch = plan-within source l now w it .batch-limit
+  within-the-batch = plan-within source l now w it .batch
 
-  -- with what is pending as it returns it stays within the blocks of the settings, where these are not passed already
+  -- and in what the other limits leave beside what is pending as it returns: blocks, the seat's own, bytes by the mean
   pub within-the-blocks : length (P .asks) ≤ w .settings .«max_pending_blocks» - length (P .window .queue .pending)
   within-the-blocks = plan-within source l now w it .blocks
+
+  pub within-the-peer : length (P .asks) ≤ effective-peer-inflight w - pending-count-for source (P .window .queue .pending)
+  unfolding effective-peer-inflight
+  within-the-peer = plan-within source l now w it .peer
+
+  pub within-the-bytes : length (P .asks) * w .mean ≤ w .settings .«max_pending_bytes» - P .window .queue .total
+  within-the-bytes = plan-bytes source l now w it
+
+  -- so lists of 256 places hold it
+  pub within-256 : settings-ok (w .settings) ≡ true → length (P .asks) ≤ max-pending
+  within-256 e = omega (arith, within-the-blocks, blocks-le (w .settings) e)
 
   -- ---- "A HASH ALREADY IN THE PLAN IS PASSED BY LIKE A PENDING ONE": no hash stands in it twice, whatever the lists name twice. The window's hashes
   -- rise strictly, as in every sound one (two records of one hash, both swept, would both be named)
@@ -91,13 +107,18 @@ module _ (form : Form) (source : ℕ) (l : Lent) (now : ℕ) (w : Window) where
   pub never-listed-twice : Rising 0 (w .queue .pending) → listed-once (P .asks) ≡ true
   never-listed-twice r = once-listed (P .asks) (plan-once source l now w r it)
 
-  -- ---- each entry was swept just now, or stands on the chain at its height, within what the peer has
+  -- ---- each entry went just now, or stands on the chain at its height, within what the peer has
 
   abbrev pub OnChain : Ask → Type 0
   OnChain a = (a .height ≤ l .tip) × (a .height ≤ l .best) × (a .height < length (hashes-in (l .chain))) × (getD (hashes-in (l .chain)) (a .height) (a .hash) ≡ a .hash)
 
   on-chain : (a : Ask) → Stands (hashes-in (l .chain)) (l .floor) (lesser (l .tip) (l .best)) a → OnChain a
   on-chain a k = (omega (arith, k .high, lesser-le-first (l .tip) (l .best)), omega (arith, k .high, lesser-le-second (l .tip) (l .best)), k .there, k .own)
+
+  pub swept-or-on-the-chain : Every (λ a. (was-swept (P .gone) a ≡ true) ⊎ OnChain a) (P .asks)
+  swept-or-on-the-chain =
+      every-map (λ a. (was-swept (P .gone) a ≡ true) ⊎ Stands (hashes-in (l .chain)) (l .floor) (lesser (l .tip) (l .best)) a) (λ a. (was-swept (P .gone) a ≡ true) ⊎ OnChain a)
+      (λ a k. elim k [ inl e ↦ inl e | inr e ↦ inr (on-chain a e) ]) (P .asks) (plan-source source l now w it)
 
   -- ---- "NO ENTRY IS OPENED UNTIL THE REQUEST IS MARKED": the pending entries are those of before without what went
 
@@ -114,6 +135,7 @@ module _ (form : Form) (source : ℕ) (l : Lent) (now : ℕ) (w : Window) where
     pub left-sound : Sound now (P .window)
     left-sound = plan-lets it g .sound
 
+    -- neither 7 nor 8
     pub marked-at-once : request-refusal (P .asks) (P .window) ≡ 0
     unfolding request-refusal list-ok every is-pending
     marked-at-once =
@@ -125,9 +147,30 @@ module _ (form : Form) (source : ℕ) (l : Lent) (now : ℕ) (w : Window) where
   pub next-is-the-frontier : is-empty (P .asks) ≡ false → mark-requested (P .asks) source (P .next) now (P .window) .frontier ≡ P .next
   next-is-the-frontier e = marked-frontier (P .asks) source (P .next) now (P .window) (plan-ge source l now w it e)
 
-  -- in two lists, as the plan is lent and a request is made
+  -- in two lists, as a plan is written and a request is made
   pub handed-on : asks-in (ask-hashes (P .asks)) (ask-heights (P .asks)) ≡ P .asks
   handed-on = asks-back (P .asks)
+
+  -- the same of the public call: a request of the plan's two lists and next height, made of the words that the plan left at its own clock, has
+  -- arguments that fit and is accepted, whatever headrooms and report are handed in with it; it leaves the frontier at the plan's next height
+  abbrev marking : ℕ → ℕ → Change
+  marking bytes n = requests now source (ask-hashes (P .asks)) (ask-heights (P .asks)) (P .next) bytes n
+
+  module _ (g : Sound now w) (bytes n : ℕ) where
+    pub marking-fits : l .tip ≤ max-height → FitsChange (marking bytes n)
+    marking-fits b =
+        let low : Ask → Type 0 = λ a. a .height ≤ max-height in
+        let swept = swept-every low (expire-pending now w .gone) (expire-every (λ e. e .height ≤ max-height) now w (each-map (λ e k. k .height) (w .queue .pending) (g .queue .each))) in
+        (heights-low (P .asks) (plan-where source l now w low swept (λ a k. omega (arith, k .high, lesser-le-first (l .tip) (l .best))) it),
+        plan-low source l now w it (rewind-steady l (expire-pending now w .window) (expire-lets g .sound) .sound .frontier))
+
+    pub marking-accepted : source ≤ max-seat → (room : ℕ) → refusal-at (checks (marking bytes n)) (with-clock now (P .window)) room ≡ 0
+    unfolding refusal-at report-ok clock-ok request-refusal list-ok
+    marking-accepted b room = rw (le-leb now max-clock (g .clock), le-leb now now (omega arith), le-leb source max-seat b, handed-on) (marked-at-once g)
+
+  pub marking-frontier : (bytes n : ℕ) → is-empty (P .asks) ≡ false → changed (marking bytes n) (with-clock now (P .window)) .window .frontier ≡ P .next
+  unfolding changed requested read-clock
+  marking-frontier bytes n e = rw handed-on (marked-frontier (P .asks) source (P .next) now (with-clock now (P .window)) (plan-ge source l now w it e))
 
   -- ---- "ON LISTS THAT NAME NO HASH TWICE NOTHING THAT COULD BE ASKED FOR IS LEFT OUT BETWEEN THE SCAN'S FIRST HEIGHT AND THE NEXT HEIGHT". The scan
   -- begins at the greatest of start, frontier and floor. A hash of the chain at a height n from there to below the next height is pending as the plan
