@@ -1,21 +1,20 @@
 -- The ways in which a plan is made: none without a sweep, none after it, or one of three over the swept and rewound window. Assumes nothing.
 use mathlib.Core.Path.{_≡_, refl, ap}
 use mathlib.Core.Logic.{inl, inr}
-use mathlib.Core.Bool.{Bool, true, cond, _&&_, _||_}
+use mathlib.Core.Bool.{true, _&&_, _||_}
 use mathlib.Core.List.{List, [], _∷_, _++_}
-use Prim.Native.Nat.{ℕ, suc, _≤_, _<_}
+use Prim.Native.Nat.{ℕ, _≤_, _<_}
 use native.Mathlib.Omega.{arith}
 use lib.Dec.{eqb, ltb, leb}
 use lib.ListN.{take, drop}
 use borrow.Author.Tests.{leb-true, ltb-true}
-use Rattle.model.specs.Numbers.{greater, next-height, max-height}
+use Rattle.model.specs.Numbers.{greater, next-height}
 use Rattle.model.specs.Hash.{hashes-in}
 use Rattle.model.specs.Window.{Window, Step, stay, after, with-frontier}
 use Rattle.model.specs.Time.{peer-has-expired-pending}
 use Rattle.model.specs.Cooling.{peer-in-staller-cooldown}
 use Rattle.model.specs.Capacity.{Capacity, no-capacity, capacity, batch-limit, byte-capacity, compute-request-capacity}
 use Rattle.model.specs.LettingGo.{expire-pending}
-use Rattle.model.specs.Races.{is-empty}
 use Rattle.model.specs.Calls.{Ask}
 use Rattle.model.specs.Planning.{Lent, Draft, Scan, Proposal, no-request, non-empty-request, held-back, noticed, swept-asks, expired-request-entries, is-first-open, maybe-rewind-request-frontier, reach, clean-stretch, is-clean, clean-contiguous-peer-request, open-in-reach, candidates, next-after, extend-request-by-reverse-scan, scan-of, request-from, request-by, request-after, next-peer-request-allowing-retry, next-peer-request}
 use Rattle.model.specs.declared.Height.the-variants.{Unknown}
@@ -105,12 +104,6 @@ module _ (t : Step) (next : ℕ) where
   unfolding non-empty-request
   named-gone [] = refl
   named-gone (a ∷ asks) = refl
-
-  -- no request has the next height 0
-  pub named-next : (asks : List Ask) → non-empty-request t asks next .next ≡ cond (is-empty asks) 0 next
-  unfolding non-empty-request
-  named-next [] = refl
-  named-next (a ∷ asks) = refl
 
 -- rewinding changes the frontier alone
 pub rewind-is : (l : Lent) (w : Window) → maybe-rewind-request-frontier l w ≡ with-frontier (maybe-rewind-request-frontier l w .frontier) w

@@ -34,10 +34,11 @@ heights-stand : (chain : List Hash) (last n : ℕ) (hs rest : List Hash) → dro
 unfolding heights-from
 heights-stand chain last n [] rest e b = tt
 heights-stand chain last n (h ∷ hs) rest e b =
-    let z = drop-step h chain n h (hs ++ rest) e in
-    (record { low = omega arith; high = omega arith; there = z .0; own = z .1 },
-    every-map (Stands chain (suc n) last) (Stands chain n last) (λ a k. record { low = omega (arith, k .low); high = k .high; there = k .there; own = k .own }) (heights-from (suc n) hs)
-    (heights-stand chain last (suc n) hs rest (z .2) (omega arith)))
+    let z = drop-step h chain n h (hs ++ rest) e in (
+      record { low = omega arith; high = omega arith; there = z .0; own = z .1 },
+      every-map (Stands chain (suc n) last) (Stands chain n last) (λ a k. record { low = omega (arith, k .low); high = k .high; there = k .there; own = k .own }) (heights-from (suc n) hs)
+          (heights-stand chain last (suc n) hs rest (z .2) (omega arith)),
+    )
 
 -- the entry at a height
 heights-member : (chain : List Hash) (d : Hash) (j k n : ℕ) (hs rest : List Hash) → drop n chain ≡ hs ++ rest → j ≡ n + k → k < length hs

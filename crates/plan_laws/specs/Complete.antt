@@ -1,19 +1,18 @@
 -- Nothing that could be asked for is left out, of a whole plan. Assumes nothing.
 use mathlib.Core.Path.{_≡_, refl, sym, ap, _∙_}
 use mathlib.Core.Logic.{inl, inr}
-use mathlib.Core.Bool.{Bool, true, false, not, _||_}
+use mathlib.Core.Bool.{Bool, true, not, _||_}
 use mathlib.Core.List.{List, [], _∷_, _++_, List·Memᴰ}
-use Prim.Native.Nat.{ℕ, suc, _≤_, _<_}
+use Prim.Native.Nat.{ℕ, _≤_, _<_}
 use native.Mathlib.Omega.{arith}
-use lib.Dec.{ltb}
 use lib.ListN.{length, getD, take}
 use borrow.Author.Tests.{leb-true, leb-false}
-use Rattle.model.specs.Numbers.{lesser, greater, next-height}
-use Rattle.model.specs.Lists.{any, select}
+use Rattle.model.specs.Numbers.{greater, next-height}
+use Rattle.model.specs.Lists.{any}
 use Rattle.model.specs.Hash.{same, hashes-in}
 use Rattle.model.specs.Window.{Window, Step}
 use Rattle.model.specs.Calls.{Ask}
-use Rattle.model.specs.Planning.{Lent, Draft, Scan, Proposal, ask, is-pending, is-staged, is-open, held-back, non-empty-request, contiguous-request-entries, reach, clean-stretch, candidates, scan-of}
+use Rattle.model.specs.Planning.{Lent, Draft, Scan, Proposal, ask, is-pending, is-staged, is-open, non-empty-request, contiguous-request-entries, reach, clean-stretch, candidates, scan-of}
 use Rattle.model.specs.declared.Hash.{Hash}
 use Rattle.laws.specs.Numbers.{both, greater-le}
 use Rattle.plan_laws.specs.Lists.{member-any, member-select, any-left, any-right, any-alike}

@@ -1,14 +1,14 @@
 -- What is swept and asked for again: which of the swept ones, how many, and where they come from. Assumes nothing.
-use mathlib.Core.Path.{_≡_, refl, sym, ap, _∙_}
+use mathlib.Core.Path.{_≡_, refl, _∙_}
 use mathlib.Core.Logic.{inl, inr}
-use mathlib.Core.Bool.{Bool, true, false, cond, not, _||_}
+use mathlib.Core.Bool.{true, false, not, _||_}
 use mathlib.Core.List.{List, [], _∷_, map}
 use Prim.Native.Nat.{ℕ, zero, suc, _+_, _-_, _*_, _≤_, _<_}
 use native.Mathlib.Nat.{zero-mul, suc-mul}
 use native.Mathlib.Omega.{arith}
 use lib.Dec.{eqb, ltb, leb}
 use lib.ListN.{length}
-use borrow.Author.Tests.{eqb-true, eqb-false, ltb-false, not-true, not-false}
+use borrow.Author.Tests.{eqb-false, ltb-false, not-true, not-false}
 use Rattle.model.specs.Lists.{count}
 use Rattle.model.specs.Hash.{key, same}
 use Rattle.model.specs.Window.{Window}
@@ -23,8 +23,8 @@ use Rattle.model.specs.declared.Release.{Release}
 use Rattle.model.specs.declared.Height.{Height}
 use Rattle.laws.specs.Numbers.{both}
 use Rattle.laws.specs.Bag.{weigh, one}
-use Rattle.laws.specs.Entries.{on, by-entry, Rising, rising-one, Picks, picks-weigh, sift, Each}
-use Rattle.plan_laws.specs.Lists.{or-false, Every, every-map}
+use Rattle.laws.specs.Entries.{on, by-entry, Rising, rising-one, picks-weigh, sift, Each}
+use Rattle.plan_laws.specs.Lists.{or-false, Every}
 use Rattle.plan_laws.specs.Named.{same-comm, times, Once}
 
 -- ---- what may be asked for

@@ -1,15 +1,15 @@
 -- The entries of a plan: each may be asked for, none twice, no more than the batch, and where they come from. Assumes nothing.
 use mathlib.Core.Path.{_≡_, refl, sym, ap, subst, _∙_}
 use mathlib.Core.Logic.{inl, inr}
-use mathlib.Core.Bool.{Bool, true, false, not, _||_, true≢false, false≢true}
-use mathlib.Core.List.{List, [], _∷_, _++_}
-use Prim.Native.Nat.{ℕ, suc, _+_, _-_, _*_, _/_, _≤_, _<_}
+use mathlib.Core.Bool.{Bool, true, false, not, false≢true}
+use mathlib.Core.List.{List, [], _∷_}
+use Prim.Native.Nat.{ℕ, _+_, _-_, _*_, _/_, _≤_, _<_}
 use native.Mathlib.Nat.{zero-mul, add-mul, mul-le-mul-right, div-mul-le-self}
 use native.Mathlib.Omega.{arith}
 use lib.ListN.{length, take, length-append, length-take}
 use borrow.Author.Tests.{not-true}
 use Rattle.model.specs.Numbers.{lesser, greater}
-use Rattle.model.specs.Lists.{any, every, select, count}
+use Rattle.model.specs.Lists.{any, select, count}
 use Rattle.model.specs.Hash.{same, hashes-in}
 use Rattle.model.specs.Window.{Window, Step}
 use Rattle.model.specs.Records.{found, is-there}
@@ -17,7 +17,7 @@ use Rattle.model.specs.Capacity.{byte-capacity}
 use Rattle.model.specs.LettingGo.{expire-pending}
 use Rattle.model.specs.Races.{is-empty}
 use Rattle.model.specs.Calls.{Ask}
-use Rattle.model.specs.Planning.{Lent, Draft, Scan, Proposal, names, is-pending, is-staged, is-refused, is-open, first-named, swept-asks, contiguous-request-entries, reach, clean-stretch, is-clean, open-in-reach, candidates, maybe-rewind-request-frontier, scan-of}
+use Rattle.model.specs.Planning.{Lent, Draft, Scan, Proposal, names, is-pending, is-staged, is-refused, is-open, swept-asks, contiguous-request-entries, reach, clean-stretch, is-clean, open-in-reach, candidates, scan-of}
 use Rattle.model.specs.declared.Hash.{Hash}
 use Rattle.model.specs.declared.Entry.{Entry}
 use Rattle.model.specs.declared.Height.the-variants.{Unknown}
@@ -28,7 +28,7 @@ use Rattle.plan_laws.specs.Lists.{Every, every-map, every-both, every-ap
 use Rattle.plan_laws.specs.Named.{times, Once, hashes-of, any-hashes, first-named-times, first-named-every, first-named-length}
 use Rattle.plan_laws.specs.Chain.{Stands, contiguous-stands, contiguous-few}
 use Rattle.plan_laws.specs.Drafts.{Good, open-is, Drawn, expired-drawn, swept-once}
-use Rattle.plan_laws.specs.Cases.{From, stretch, scanned, retried, Made, made, the-batch, the-draft, the-step, the-scan, Plan, unasked, no-room, room, named-asks, named-window, rewind-is, rewind-queue}
+use Rattle.plan_laws.specs.Cases.{From, stretch, scanned, retried, made, the-batch, the-draft, the-step, the-scan, Plan, unasked, no-room, room, named-asks, named-window, rewind-is, rewind-queue}
 
 -- ---- empty lists name nothing
 
@@ -212,7 +212,7 @@ module _ (source : ℕ) (l : Lent) (now : ℕ) (w : Window) where
       let limit = the-scan source l now w .limit in
       let same-mean : t .window .mean ≡ m = ap (λ (v : Window). v .mean) (rewind-is l (expire-pending now w .window)) in
       let by-bytes : limit ≤ d .bytes / m =
-          subst (λ (k : ℕ). limit ≤ d .bytes / k) same-mean (lesser-le-second (the-batch source l now w - length (d .asks)) (d .bytes / t .window .mean)) in
+      subst (λ (k : ℕ). limit ≤ d .bytes / k) same-mean (lesser-le-second (the-batch source l now w - length (d .asks)) (d .bytes / t .window .mean)) in
       let all : length asks * m ≤ (length (d .asks) + limit) * m = mul-le-mul-right m (from-few l t (the-scan source l now w) d f) in
       rw (named-asks t next asks) (omega (arith, add-mul (length (d .asks)) limit m, mul-le-mul-right m by-bytes, div-mul-le-self (d .bytes) m, drawn .spent))
 

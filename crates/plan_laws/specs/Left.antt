@@ -1,29 +1,28 @@
 -- What a plan leaves: settings as they were, pending entries without those that went, room for its entries, a frontier that its next height is no
 -- lower than. Assumes nothing.
-use mathlib.Core.Path.{_≡_, refl, sym, ap, subst, _∙_}
+use mathlib.Core.Path.{_≡_, refl, ap, subst, _∙_}
 use mathlib.Core.Logic.{_⊎_, inl, inr}
-use mathlib.Core.Bool.{Bool, true, false, not, cond, _&&_, true≢false}
+use mathlib.Core.Bool.{Bool, true, false, not, _&&_, true≢false}
 use mathlib.Core.List.{List, [], _∷_, List·Memᴰ}
-use Prim.Native.Nat.{ℕ, suc, _+_, _-_, _*_, _≤_, _<_}
+use Prim.Native.Nat.{ℕ, _-_, _*_, _≤_}
 use native.Mathlib.Nat.{zero-mul}
 use native.Mathlib.Omega.{arith}
 use lib.Dec.{eqb}
 use lib.ListN.{length}
 use borrow.Author.Tests.{eq-eqb}
-use Rattle.model.specs.Numbers.{lesser, greater, max-height}
+use Rattle.model.specs.Numbers.{lesser, max-height}
 use Rattle.model.specs.Lists.{any}
 use Rattle.model.specs.Hash.{same, hashes-in}
-use Rattle.model.specs.Window.{Window, Queue, Step, queue, with-queue}
+use Rattle.model.specs.Window.{Window, Queue, queue, with-queue}
 use Rattle.model.specs.Records.{pending-count-for}
 use Rattle.model.specs.Time.{effective-owner-timeout, active}
-use Rattle.model.specs.LettingGo.{gone, kept, total-after, extract, sweep-reason, resets, expire-pending}
+use Rattle.model.specs.LettingGo.{gone, kept, total-after, extract, sweep-reason, expire-pending}
 use Rattle.model.specs.Capacity.{effective-peer-inflight, batch-limit, byte-capacity}
 use Rattle.model.specs.Races.{is-empty}
 use Rattle.model.specs.Calls.{Ask, asks-in, noted, mark-requested}
-use Rattle.model.specs.Planning.{Lent, Proposal, ask, ask-hashes, ask-heights, maybe-rewind-request-frontier, non-empty-request, no-request, scan-of}
+use Rattle.model.specs.Planning.{Lent, Proposal, ask, ask-hashes, ask-heights, maybe-rewind-request-frontier, non-empty-request, scan-of}
 use Rattle.model.specs.declared.Release.{Release}
 use Rattle.model.specs.declared.Settings.{Settings}
-use Rattle.model.specs.declared.Source.the-variants.{Missing}
 use Rattle.laws.specs.Numbers.{both, lesser-le-first, lesser-le-second, greater-second}
 use Rattle.laws.specs.Every.{and-so}
 use Rattle.laws.specs.Entries.{Picks, done, sift}
@@ -33,7 +32,7 @@ use Rattle.plan_laws.specs.Lists.{Every, every-own, member-any}
 use Rattle.plan_laws.specs.Named.{same-self}
 use Rattle.plan_laws.specs.Chain.{Stands}
 use Rattle.plan_laws.specs.Drafts.{swept-every}
-use Rattle.plan_laws.specs.Cases.{From, Made, made, the-batch, the-draft, the-step, the-scan, Plan, unasked, no-room, room, named-asks, named-window, named-gone, rewind-is, rewind-queue}
+use Rattle.plan_laws.specs.Cases.{made, the-batch, the-step, Plan, unasked, no-room, room, named-window, named-gone, rewind-queue}
 use Rattle.plan_laws.specs.Nexts.{from-ge, from-low}
 use Rattle.plan_laws.specs.Entries.{plan-few, plan-spends, plan-where}
 
@@ -85,13 +84,6 @@ batch-within source n w =
 -- ---- a plan
 
 module _ (source : ℕ) (l : Lent) (now : ℕ) (w : Window) where
-  pub plan-settings : {P : Proposal} → Plan source l now w P → P .window .settings ≡ w .settings
-  plan-settings unasked = refl
-  plan-settings no-room = expire-settings now w
-  plan-settings (room (made {asks} {next} f)) =
-      let t = the-step source l now w in
-      ap (λ (v : Window). v .settings) (named-window t next asks) ∙ ap (λ (v : Window). v .settings) (rewind-is l (expire-pending now w .window)) ∙ expire-settings now w
-
   pub plan-picks : {P : Proposal} → Plan source l now w P → Picks (P .gone) (w .queue .pending) (P .window .queue .pending)
   plan-picks unasked = done
   plan-picks no-room = expire-picks now w
@@ -131,7 +123,7 @@ module _ (source : ℕ) (l : Lent) (now : ℕ) (w : Window) where
       let b = ap (λ (x : Settings). x .«max_pending_bytes») (expire-settings now w) in
       let spends = plan-spends source l now w (room (made f)) in
       let spends-so : length (non-empty-request t asks next .asks) * w .mean ≤ lesser (v .settings .«max_pending_bytes» - v .queue .total) (l .bytes) =
-          subst (λ (m : ℕ). length (non-empty-request t asks next .asks) * m ≤ lesser (v .settings .«max_pending_bytes» - v .queue .total) (l .bytes)) expire-mean spends in
+      subst (λ (m : ℕ). length (non-empty-request t asks next .asks) * m ≤ lesser (v .settings .«max_pending_bytes» - v .queue .total) (l .bytes)) expire-mean spends in
       omega (arith, lesser-le-first (v .settings .«max_pending_bytes» - v .queue .total) (l .bytes))
 
   -- every entry went just now, or stands on the chain

@@ -1,13 +1,13 @@
 -- What holds of every element of a list, what is in it, and how many of its elements a test holds of. Assumes nothing.
 use mathlib.Core.Path.{_≡_, refl, sym, subst}
 use mathlib.Core.Logic.{_⊎_, inl, inr}
-use mathlib.Core.Bool.{Bool, true, false, cond, not, _||_, true≢false, false≢true}
+use mathlib.Core.Bool.{Bool, true, false, cond, not, _||_, true≢false}
 use mathlib.Core.List.{List, [], _∷_, _++_, List·Memᴰ, List·Memᴰ·head, List·Memᴰ·tail}
-use Prim.Native.Nat.{ℕ, zero, suc, _+_, _≤_, _<_}
+use Prim.Native.Nat.{ℕ, zero, suc, _+_, _≤_}
 use native.Mathlib.Omega.{arith}
 use lib.ListN.{length, take, drop}
 use Rattle.model.specs.Lists.{all, any, select, count}
-use Rattle.laws.specs.Numbers.{both, and-both}
+use Rattle.laws.specs.Numbers.{both}
 
 -- ---- tests
 
@@ -60,10 +60,6 @@ module _ {A : Type 0} where
       | inl e ↦ rw e (a .0, every-select q l (a .1))
       | inr e ↦ rw e (every-select q l (a .1))
     ]
-
-    pub every-at : (x : A) (l : List A) → List·Memᴰ x l → Every P l → P x
-    every-at x (y ∷ l) (List·Memᴰ·head e) a = subst P (sym e) (a .0)
-    every-at x (y ∷ l) (List·Memᴰ·tail m) a = every-at x l m (a .1)
 
     pub every-own : (l : List A) → ((x : A) → List·Memᴰ x l → P x) → Every P l
     every-own [] f = tt
@@ -189,9 +185,6 @@ module _ {A : Type 0} where
       | inl e ↦ rw e (omega (arith, split-length l))
       | inr e ↦ rw e (omega (arith, split-length l))
     ]
-
-    pub select-length : (l : List A) → length (select p l) ≤ length l
-    select-length l = omega (arith, split-length l)
 
   pub count-or : (p q : A → Bool) (l : List A) → count (λ x. p x || q x) l ≤ count p l + count q l
   unfolding count

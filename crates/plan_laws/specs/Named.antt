@@ -1,9 +1,9 @@
 -- How often a list names a hash, and what `first-named` leaves of it. Assumes nothing.
 use mathlib.Core.Path.{_≡_, refl, sym, ap, _∙_}
 use mathlib.Core.Logic.{inl, inr}
-use mathlib.Core.Bool.{Bool, true, false, cond, not, _||_, true≢false}
+use mathlib.Core.Bool.{true, false, not, _||_, true≢false}
 use mathlib.Core.List.{List, [], _∷_, map}
-use Prim.Native.Nat.{ℕ, suc, _+_, _≤_, _<_}
+use Prim.Native.Nat.{ℕ, suc, _≤_}
 use native.Mathlib.Omega.{arith}
 use lib.Dec.{eqb}
 use lib.ListN.{length}
@@ -19,7 +19,7 @@ use Rattle.model.specs.declared.Hash.{Hash}
 use Rattle.model.specs.declared.Entry.{Entry}
 use Rattle.laws.specs.Numbers.{both}
 use Rattle.laws.specs.Every.{and-so}
-use Rattle.plan_laws.specs.Lists.{or-false, Every, every-map, any-none, count-or, count-alike, zero-any, any-alike, select-alike}
+use Rattle.plan_laws.specs.Lists.{Every, every-map, any-none, count-or, count-alike, zero-any, any-alike, select-alike}
 
 -- ---- hashes
 
@@ -94,7 +94,7 @@ unfolding listed-once
 once-listed [] f = refl
 once-listed (a ∷ ks) f =
     let other : any (λ x. same (x .hash) (a .hash)) ks ≡ false =
-        any-alike (λ x. same (x .hash) (a .hash)) (λ x. same (a .hash) (x .hash)) (λ x. same-comm (x .hash) (a .hash)) ks ∙ once-first a ks f in
+    any-alike (λ x. same (x .hash) (a .hash)) (λ x. same (a .hash) (x .hash)) (λ x. same-comm (x .hash) (a .hash)) ks ∙ once-first a ks f in
     and-so (ap not other) (once-listed ks (once-rest a ks f))
 
 -- of asks that name no hash twice at most as many are named by a list as it is long
@@ -163,6 +163,6 @@ first-named-select seen (a ∷ ks) f = elim (both (any (same (a .hash)) seen)) [
   | inr s ↦
       let other : Every (λ x. same (a .hash) (x .hash) ≡ false) ks = any-none (λ x. same (a .hash) (x .hash)) ks (once-first a ks f) in
       let alike = every-map (λ x. same (a .hash) (x .hash) ≡ false)
-          (λ x. not (same (x .hash) (a .hash) || any (same (x .hash)) seen) ≡ not (any (same (x .hash)) seen)) (λ x e. rw (same-comm (x .hash) (a .hash), e)) ks other in
+      (λ x. not (same (x .hash) (a .hash) || any (same (x .hash)) seen) ≡ not (any (same (x .hash)) seen)) (λ x e. rw (same-comm (x .hash) (a .hash), e)) ks other in
       rw s (λ i. a ∷ (first-named-select (a .hash ∷ seen) ks (once-rest a ks f) ∙ select-alike _ _ ks alike) i)
 ]

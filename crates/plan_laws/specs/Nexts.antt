@@ -1,19 +1,19 @@
 -- The next height of a plan: no lower than the frontier, no higher than a height can be. Assumes nothing.
-use mathlib.Core.Path.{_≡_, refl}
+use mathlib.Core.Path.{_≡_}
 use mathlib.Core.Logic.{inl, inr}
 use mathlib.Core.List.{List, [], _∷_}
-use Prim.Native.Nat.{ℕ, suc, _≤_, _<_}
+use Prim.Native.Nat.{ℕ, _≤_}
 use native.Mathlib.Omega.{arith}
 use lib.Dec.{ltb, leb}
 use lib.ListN.{length, take}
-use borrow.Author.Tests.{leb-true, leb-false}
+use borrow.Author.Tests.{leb-true}
 use Rattle.model.specs.Numbers.{lesser, greater, next-height, max-height}
 use Rattle.model.specs.Window.{Step}
 use Rattle.model.specs.Calls.{Ask}
 use Rattle.model.specs.Planning.{Lent, Draft, Scan, held-back, noticed, past, next-after, reach, open-in-reach, candidates}
 use Rattle.model.specs.declared.Height.{Height}
 use Rattle.model.specs.declared.Height.the-variants.{Unknown, Known}
-use Rattle.laws.specs.Numbers.{both, lesser-le-first, lesser-le-second, second-le-greater, greater-le, next-height-le}
+use Rattle.laws.specs.Numbers.{both, lesser-le-first, second-le-greater, greater-le, next-height-le}
 use Rattle.plan_laws.specs.Cases.{From, stretch, scanned, retried}
 
 pub first-le-greater : (a b : ℕ) → a ≤ greater a b

@@ -1,18 +1,17 @@
--- REQUEST 02'S OWN SENTENCES ABOUT A PLAN, each a theorem of the definitions: of both calls, for every seat, clock and window, and for every chain,
--- staged and refused list of any length. Where a theorem asks for more, it says so: the window sound (`Sound`, which every accepted call has), or
--- hashes that are named once. Each may be read without its proof. Assumes nothing.
-use mathlib.Core.Path.{_≡_, refl, sym, ap, _∙_}
+-- REQUEST 02'S SENTENCES ABOUT A PLAN, each a theorem of the definitions: of both calls, for every seat, clock and window, and for every chain, staged
+-- and refused list. Where a theorem asks for more, it says so: a sound window (`Sound`, which every accepted call has), or hashes that are named once.
+-- Each may be read without its proof. Assumes nothing.
+use mathlib.Core.Path.{_≡_, refl}
 use mathlib.Core.Logic.{_⊎_, inl, inr}
-use mathlib.Core.Bool.{Bool, true, false, not, _||_}
-use mathlib.Core.List.{List, [], _∷_, List·Memᴰ}
+use mathlib.Core.Bool.{Bool, true, false, _||_}
 use Prim.Native.Nat.{ℕ, _+_, _-_, _*_, _≤_, _<_}
 use native.Mathlib.Omega.{arith}
-use lib.Dec.{ltb, leb}
+use lib.Dec.{ltb}
 use lib.ListN.{length, getD}
 use borrow.Author.Tests.{le-ltb, le-leb}
 use Rattle.model.specs.Numbers.{lesser, max-clock, max-height, max-pending, max-seat, clock-ok, read-clock}
-use Rattle.model.specs.Lists.{any, all, every}
-use Rattle.model.specs.Hash.{same, hashes-in}
+use Rattle.model.specs.Lists.{any, every}
+use Rattle.model.specs.Hash.{hashes-in}
 use Rattle.model.specs.Window.{Window, with-clock}
 use Rattle.model.specs.Records.{pending-count-for}
 use Rattle.model.specs.Capacity.{effective-peer-inflight}
@@ -22,21 +21,19 @@ use Rattle.model.specs.Calls.{Ask, asks-in, mark-requested}
 use Rattle.model.specs.Refusals.{Change, requests, checks, listed-once, list-ok, request-refusal, report-ok, refusal-at}
 use Rattle.model.specs.Perform.{changed, requested}
 use Rattle.model.specs.Layout.{settings-ok}
-use Rattle.model.specs.Planning.{Lent, Proposal, ask, is-pending, is-staged, is-refused, maybe-rewind-request-frontier, swept-asks, next-peer-request, next-peer-request-allowing-retry, ask-hashes, ask-heights}
+use Rattle.model.specs.Planning.{Lent, Proposal, ask, is-pending, is-staged, is-refused, maybe-rewind-request-frontier, next-peer-request, next-peer-request-allowing-retry, ask-hashes, ask-heights}
 use Rattle.model.specs.declared.Hash.{Hash}
-use Rattle.model.specs.declared.Entry.{Entry}
-use Rattle.model.specs.declared.Settings.{Settings}
-use Rattle.laws.specs.Numbers.{both, lesser-le-first, lesser-le-second}
+use Rattle.laws.specs.Numbers.{lesser-le-first, lesser-le-second}
 use Rattle.laws.specs.Every.{and-so, blocks-le}
 use Rattle.laws.specs.Entries.{Rising, Picks, each-map}
 use Rattle.laws.specs.Sound.{Sound}
 use Rattle.laws.specs.Lets.{expire-lets}
-use Rattle.laws.specs.Fits.{LowAll, FitsChange}
-use Rattle.plan_laws.specs.Lists.{Every, every-map, every-at, none-any, none-all}
+use Rattle.laws.specs.Fits.{FitsChange}
+use Rattle.plan_laws.specs.Lists.{Every, every-map, none-any, none-all}
 use Rattle.plan_laws.specs.Named.{NamesOnce, hashes-of, times-hashes, once-listed}
 use Rattle.plan_laws.specs.Chain.{Stands}
 use Rattle.plan_laws.specs.Drafts.{Good, expire-every, swept-every}
-use Rattle.plan_laws.specs.Cases.{Plan, retry-plan, first-plan, step-of, plan-lets, rewind-steady}
+use Rattle.plan_laws.specs.Cases.{Plan, retry-plan, first-plan, plan-lets, rewind-steady}
 use Rattle.plan_laws.specs.Entries.{plan-good, plan-once, plan-where}
 use Rattle.plan_laws.specs.Complete.{is-planned, plan-complete}
 use Rattle.plan_laws.specs.Left.{was-swept, plan-picks, plan-within, plan-bytes, plan-source, plan-left, plan-ge, plan-low, marked-frontier, asks-back, heights-low}
@@ -61,30 +58,31 @@ module _ (form : Form) (source : ℕ) (l : Lent) (now : ℕ) (w : Window) where
   it : Plan source l now w P
   it = plan-is form source l now w
 
-  -- ---- "A PLAN NEVER NAMES A HASH THAT IS PENDING AS IT RETURNS, STAGED OR REFUSED, NOR A HEIGHT UNDER THE SERVABLE FLOOR"
+  -- ---- "A plan never names a hash that is pending as it returns, staged or refused, nor a height under the servable floor"
+
+  none-of : (p : Ask → Bool) → ((a : Ask) → Good l (P .window) a → p a ≡ false) → any p (P .asks) ≡ false
+  none-of p f = none-any p (P .asks) (every-map (Good l (P .window)) (λ a. p a ≡ false) f (P .asks) (plan-good source l now w it))
 
   pub never-pending : any (is-pending (P .window)) (P .asks) ≡ false
-  never-pending = none-any (is-pending (P .window)) (P .asks) (every-map (Good l (P .window)) (λ a. is-pending (P .window) a ≡ false) (λ a g. g .pending) (P .asks) (plan-good source l now w it))
+  never-pending = none-of (is-pending (P .window)) (λ a g. g .pending)
 
   pub never-staged : any (is-staged l) (P .asks) ≡ false
-  never-staged = none-any (is-staged l) (P .asks) (every-map (Good l (P .window)) (λ a. is-staged l a ≡ false) (λ a g. g .staged) (P .asks) (plan-good source l now w it))
+  never-staged = none-of (is-staged l) (λ a g. g .staged)
 
   pub never-refused : any (is-refused l) (P .asks) ≡ false
-  never-refused = none-any (is-refused l) (P .asks) (every-map (Good l (P .window)) (λ a. is-refused l a ≡ false) (λ a g. g .refused) (P .asks) (plan-good source l now w it))
+  never-refused = none-of (is-refused l) (λ a g. g .refused)
 
   pub never-under-the-floor : any (λ a. ltb (a .height) (l .floor)) (P .asks) ≡ false
-  never-under-the-floor =
-      none-any (λ a. ltb (a .height) (l .floor)) (P .asks)
-      (every-map (Good l (P .window)) (λ a. ltb (a .height) (l .floor) ≡ false) (λ a g. le-ltb (a .height) (l .floor) (g .floor)) (P .asks) (plan-good source l now w it))
+  never-under-the-floor = none-of (λ a. ltb (a .height) (l .floor)) (λ a g. le-ltb (a .height) (l .floor) (omega (arith, g .floor)))
 
-  -- ---- "AND ITS LENGTH STAYS IN THE BATCH LIMIT"
+  -- ---- "and its length stays in the batch limit"
 
   pub within-the-batch : length (P .asks) ≤ w .settings .«getdata_batch_limit»
-  within-the-batch = plan-within source l now w it .batch
+  within-the-batch = omega (arith, plan-within source l now w it .batch)
 
   -- and in what the other limits leave beside what is pending as it returns: blocks, the seat's own, bytes by the mean
   pub within-the-blocks : length (P .asks) ≤ w .settings .«max_pending_blocks» - length (P .window .queue .pending)
-  within-the-blocks = plan-within source l now w it .blocks
+  within-the-blocks = omega (arith, plan-within source l now w it .blocks)
 
   pub within-the-peer : length (P .asks) ≤ effective-peer-inflight w - pending-count-for source (P .window .queue .pending)
   unfolding effective-peer-inflight
@@ -97,7 +95,7 @@ module _ (form : Form) (source : ℕ) (l : Lent) (now : ℕ) (w : Window) where
   pub within-256 : settings-ok (w .settings) ≡ true → length (P .asks) ≤ max-pending
   within-256 e = omega (arith, within-the-blocks, blocks-le (w .settings) e)
 
-  -- ---- "A HASH ALREADY IN THE PLAN IS PASSED BY LIKE A PENDING ONE": no hash stands in it twice, whatever the lists name twice. The window's hashes
+  -- ---- "A hash already in the plan is passed by like a pending one": no hash stands in it twice, whatever the lists name twice. The window's hashes
   -- rise strictly, as in every sound one (two records of one hash, both swept, would both be named)
 
   pub never-twice : Rising 0 (w .queue .pending) → NamesOnce (hashes-of (P .asks))
@@ -120,7 +118,7 @@ module _ (form : Form) (source : ℕ) (l : Lent) (now : ℕ) (w : Window) where
       every-map (λ a. (was-swept (P .gone) a ≡ true) ⊎ Stands (hashes-in (l .chain)) (l .floor) (lesser (l .tip) (l .best)) a) (λ a. (was-swept (P .gone) a ≡ true) ⊎ OnChain a)
       (λ a k. elim k [ inl e ↦ inl e | inr e ↦ inr (on-chain a e) ]) (P .asks) (plan-source source l now w it)
 
-  -- ---- "NO ENTRY IS OPENED UNTIL THE REQUEST IS MARKED": the pending entries are those of before without what went
+  -- ---- "no entry is opened until the request is marked": the pending entries are those of before without what went
 
   pub nothing-opened : Picks (P .gone) (w .queue .pending) (P .window .queue .pending)
   nothing-opened = plan-picks source l now w it
@@ -129,7 +127,7 @@ module _ (form : Form) (source : ℕ) (l : Lent) (now : ℕ) (w : Window) where
   pub swept-and-rewound : is-empty (P .asks) ≡ false → (P .window ≡ maybe-rewind-request-frontier l (expire-pending now w .window)) × (P .gone ≡ expire-pending now w .gone)
   swept-and-rewound e = plan-left source l now w it e
 
-  -- ---- "A PLAN MARKED AT ONCE FOR THE SAME SEAT IS NOT REFUSED BY 7 OR 8, AND THE FRONTIER IS THEN THE PLAN'S NEXT HEIGHT"
+  -- ---- a plan that is marked at once for the same seat is not refused by 7 or 8, and the frontier is then the plan's next height
 
   module _ (g : Sound now w) where
     pub left-sound : Sound now (P .window)
@@ -160,9 +158,10 @@ module _ (form : Form) (source : ℕ) (l : Lent) (now : ℕ) (w : Window) where
     pub marking-fits : l .tip ≤ max-height → FitsChange (marking bytes n)
     marking-fits b =
         let low : Ask → Type 0 = λ a. a .height ≤ max-height in
-        let swept = swept-every low (expire-pending now w .gone) (expire-every (λ e. e .height ≤ max-height) now w (each-map (λ e k. k .height) (w .queue .pending) (g .queue .each))) in
-        (heights-low (P .asks) (plan-where source l now w low swept (λ a k. omega (arith, k .high, lesser-le-first (l .tip) (l .best))) it),
-        plan-low source l now w it (rewind-steady l (expire-pending now w .window) (expire-lets g .sound) .sound .frontier))
+        let swept = swept-every low (expire-pending now w .gone) (expire-every (λ e. e .height ≤ max-height) now w (each-map (λ e k. k .height) (w .queue .pending) (g .queue .each))) in (
+          heights-low (P .asks) (plan-where source l now w low swept (λ a k. omega (arith, k .high, lesser-le-first (l .tip) (l .best))) it),
+          plan-low source l now w it (rewind-steady l (expire-pending now w .window) (expire-lets g .sound) .sound .frontier),
+        )
 
     pub marking-accepted : source ≤ max-seat → (room : ℕ) → refusal-at (checks (marking bytes n)) (with-clock now (P .window)) room ≡ 0
     unfolding refusal-at report-ok clock-ok request-refusal list-ok
@@ -172,10 +171,10 @@ module _ (form : Form) (source : ℕ) (l : Lent) (now : ℕ) (w : Window) where
   unfolding changed requested read-clock
   marking-frontier bytes n e = rw handed-on (marked-frontier (P .asks) source (P .next) now (with-clock now (P .window)) (plan-ge source l now w it e))
 
-  -- ---- "ON LISTS THAT NAME NO HASH TWICE NOTHING THAT COULD BE ASKED FOR IS LEFT OUT BETWEEN THE SCAN'S FIRST HEIGHT AND THE NEXT HEIGHT". The scan
-  -- begins at the greatest of start, frontier and floor. A hash of the chain at a height n from there to below the next height is pending as the plan
-  -- returns, or staged, or in the plan; so a refused one that is neither is not below the next height. (Without a request the next height is 0.)
+  -- ---- on a chain that names no hash twice nothing that could be asked for is left out between the scan's first height, which is the greatest of
+  -- start, frontier and floor, and the next height: a hash of the chain at such a height n is pending as the plan returns, staged, or in the plan. So a
+  -- refused one that is neither pending nor staged is not below the next height. (Without a request the next height is 0.)
 
   pub nothing-left-out : NamesOnce (hashes-in (l .chain)) → (x : Hash) (n : ℕ) → l .start ≤ n → P .window .frontier ≤ n → l .floor ≤ n → n < P .next → n < length (hashes-in (l .chain))
       → let a = ask (getD (hashes-in (l .chain)) n x) n in (is-pending (P .window) a || is-staged l a || is-planned (P .asks) (a .hash)) ≡ true
-  nothing-left-out once x n s f b c d = plan-complete source l now w it once x n s f b c d
+  nothing-left-out once x n s f b c d = plan-complete source l now w it once x n (omega arith) (omega arith) (omega arith) (omega arith) (omega arith)

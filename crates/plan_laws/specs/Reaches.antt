@@ -1,10 +1,10 @@
 -- Nothing that could be asked for is left out below the next height. The reach has as many heights as are wanted, pending, staged and taken: on a
 -- chain that names no hash twice at most so many of them are passed by, so that what is wanted is found, or a refused height holds the next height
 -- back, or the peer has no more. Assumes nothing.
-use mathlib.Core.Path.{_≡_, refl, sym, ap, subst, _∙_}
+use mathlib.Core.Path.{_≡_, refl, sym, ap, subst}
 use mathlib.Core.Logic.{inl, inr}
 use mathlib.Core.Bool.{Bool, true, false, cond, not, _||_, true≢false}
-use mathlib.Core.List.{List, [], _∷_, _++_, map, List·Memᴰ, List·Memᴰ·head, List·Memᴰ·tail}
+use mathlib.Core.List.{List, [], _∷_, List·Memᴰ, List·Memᴰ·head, List·Memᴰ·tail}
 use Prim.Native.Nat.{ℕ, suc, _+_, _-_, _≤_, _<_}
 use native.Mathlib.Omega.{arith}
 use lib.Dec.{ltb, leb}
@@ -14,15 +14,15 @@ use borrow.Author.Tests.{ltb-true, ltb-false, leb-true, leb-false}
 use Rattle.model.specs.Numbers.{lesser, greater, next-height, max-height}
 use Rattle.model.specs.Lists.{any, select, count}
 use Rattle.model.specs.Hash.{same, hashes-in}
-use Rattle.model.specs.Window.{Window, Step}
+use Rattle.model.specs.Window.{Window}
 use Rattle.model.specs.Calls.{Ask}
-use Rattle.model.specs.Planning.{Lent, Draft, Scan, ask, names, is-pending, is-staged, is-refused, is-open, lower-of, noticed, held-back, first-named, contiguous-request-entries, reach, clean-stretch, past, open-in-reach, candidates, next-after}
+use Rattle.model.specs.Planning.{Lent, Scan, ask, names, is-pending, is-staged, is-refused, is-open, lower-of, noticed, held-back, contiguous-request-entries, reach, past, open-in-reach, candidates, next-after}
 use Rattle.model.specs.declared.Hash.{Hash}
 use Rattle.model.specs.declared.Height.{Height}
 use Rattle.model.specs.declared.Height.the-variants.{Unknown, Known}
 use Rattle.laws.specs.Numbers.{both, lesser-le-first, lesser-le-second, lesser-first, le-lesser, greater-le}
-use Rattle.plan_laws.specs.Lists.{or-true, not-not, Every, every-map, every-take, every-select, any-none, member-any, member-select, select-all, count-select, count-or, count-alike, split-length}
-use Rattle.plan_laws.specs.Named.{same-self, NamesOnce, Once, hashes-of, pending-hashes, pending-named, count-named, first-named-every, first-named-select}
+use Rattle.plan_laws.specs.Lists.{or-true, not-not, Every, every-map, every-take, every-select, any-none, member-select, select-all, count-select, count-or, count-alike, split-length}
+use Rattle.plan_laws.specs.Named.{NamesOnce, Once, hashes-of, pending-hashes, pending-named, count-named, first-named-select}
 use Rattle.plan_laws.specs.Chain.{Stands, Higher, contiguous-stands, contiguous-member, contiguous-many, contiguous-higher, contiguous-once, higher-select, first-or-lower}
 
 -- ---- what the lowest refused height holds back
@@ -142,7 +142,7 @@ module _ (l : Lent) (w : Window) (s : Scan) (taken : List Ask) (once : NamesOnce
   found-many =
       let xs = select (is-open l w) looked in
       let pending-few : count (is-pending w) looked ≤ length (w .queue .pending) =
-          omega (arith, count-alike (is-pending w) (named (pending-hashes w)) (pending-named w) looked, count-named (pending-hashes w) looked looked-once, length-map (w .queue .pending) (λ e. e .hash)) in
+      omega (arith, count-alike (is-pending w) (named (pending-hashes w)) (pending-named w) looked, count-named (pending-hashes w) looked looked-once, length-map (w .queue .pending) (λ e. e .hash)) in
       let staged-few : count (is-staged l) looked ≤ length (hashes-in (l .staged)) = count-named (hashes-in (l .staged)) looked looked-once in
       let shut = count-alike (λ a. not (is-open l w a)) (λ a. is-pending w a || is-staged l a) (λ a. not-not (is-pending w a || is-staged l a)) looked in
       let taken-few = count-named (hashes-of taken) xs (λ h. omega (arith, count-select (λ a. same h (a .hash)) (is-open l w) looked, looked-once h)) in
@@ -208,8 +208,11 @@ module _ (l : Lent) (w : Window) (s : Scan) (taken : List Ask) (once : NamesOnce
                   | inl q ↦ rw (take-all (s .limit) cs (omega (arith, ltb-true (length cs) (s .limit) q))) k
                   | inr q ↦ elim (first-or-lower (s .limit) (s .height) at-n cs k (higher-select kept (s .height) found found-higher)) [
                     | inl i ↦ i
-                    | inr i ↦ absurd (omega (arith, held-below (noticed l found low) (w .frontier) (next-after s cs) n from-n
-                    (after-below s cs n below-n i (λ few. absurd (omega (arith, ltb-false (length cs) (s .limit) q))))))
+                    | inr i ↦ absurd (omega (
+                      arith,
+                      held-below (noticed l found low) (w .frontier) (next-after s cs) n from-n
+                          (after-below s cs n below-n i (λ few. absurd (omega (arith, ltb-false (length cs) (s .limit) q)))),
+                    ))
                   ]
                 ]
           ]
