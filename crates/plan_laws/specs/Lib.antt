@@ -8,4 +8,5 @@ pub mod Entries
 pub mod Reaches
 pub mod Complete
 pub mod Left
+pub mod Unplanned
 pub mod Plan

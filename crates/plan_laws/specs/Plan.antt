@@ -1,9 +1,9 @@
 -- REQUEST 02'S SENTENCES ABOUT A PLAN, each a theorem of the definitions: of both calls, for every seat, clock and window, and for every chain, staged
 -- and refused list. Where a theorem asks for more, it says so: a sound window (`Sound`, which every accepted call has), or hashes that are named once.
 -- Each may be read without its proof. Assumes nothing.
-use mathlib.Core.Path.{_≡_, refl}
+use mathlib.Core.Path.{_≡_, refl, ap, _∙_}
 use mathlib.Core.Logic.{_⊎_, inl, inr}
-use mathlib.Core.Bool.{Bool, true, false, _||_}
+use mathlib.Core.Bool.{Bool, true, false, cond, not, _&&_, _||_}
 use Prim.Native.Nat.{ℕ, _+_, _-_, _*_, _≤_, _<_}
 use native.Mathlib.Omega.{arith}
 use lib.Dec.{ltb}
@@ -12,18 +12,20 @@ use borrow.Author.Tests.{le-ltb, le-leb}
 use Rattle.model.specs.Numbers.{lesser, max-clock, max-height, max-pending, max-seat, clock-ok, read-clock}
 use Rattle.model.specs.Lists.{any, every}
 use Rattle.model.specs.Hash.{hashes-in}
-use Rattle.model.specs.Window.{Window, with-clock}
+use Rattle.model.specs.Window.{Window, stay, with-clock}
 use Rattle.model.specs.Records.{pending-count-for}
-use Rattle.model.specs.Capacity.{effective-peer-inflight}
+use Rattle.model.specs.Time.{peer-has-expired-pending}
+use Rattle.model.specs.Cooling.{peer-in-staller-cooldown}
+use Rattle.model.specs.Capacity.{effective-peer-inflight, no-capacity, compute-request-capacity}
 use Rattle.model.specs.Races.{is-empty}
 use Rattle.model.specs.LettingGo.{expire-pending}
 use Rattle.model.specs.Calls.{Ask, asks-in, mark-requested}
 use Rattle.model.specs.Refusals.{Change, requests, checks, listed-once, list-ok, request-refusal, report-ok, refusal-at}
 use Rattle.model.specs.Perform.{changed, requested}
 use Rattle.model.specs.Layout.{settings-ok}
-use Rattle.model.specs.Planning.{Lent, Proposal, ask, is-pending, is-staged, is-refused, maybe-rewind-request-frontier, next-peer-request, next-peer-request-allowing-retry, ask-hashes, ask-heights}
+use Rattle.model.specs.Planning.{Lent, Proposal, ask, no-request, is-pending, is-staged, is-refused, is-open, maybe-rewind-request-frontier, next-peer-request, next-peer-request-allowing-retry, ask-hashes, ask-heights}
 use Rattle.model.specs.declared.Hash.{Hash}
-use Rattle.laws.specs.Numbers.{lesser-le-first, lesser-le-second}
+use Rattle.laws.specs.Numbers.{both, lesser-le-first, lesser-le-second}
 use Rattle.laws.specs.Every.{and-so, blocks-le}
 use Rattle.laws.specs.Entries.{Rising, Picks, each-map}
 use Rattle.laws.specs.Sound.{Sound}
@@ -37,6 +39,7 @@ use Rattle.plan_laws.specs.Cases.{Plan, retry-plan, first-plan, plan-let
 use Rattle.plan_laws.specs.Entries.{plan-good, plan-once, plan-where}
 use Rattle.plan_laws.specs.Complete.{is-planned, plan-complete}
 use Rattle.plan_laws.specs.Left.{was-swept, plan-picks, plan-within, plan-bytes, plan-source, plan-left, plan-ge, plan-low, marked-frontier, asks-back, heights-low}
+use Rattle.plan_laws.specs.Unplanned.{first-alike, first-none, retry-none, retry-swept, rewound-frontier}
 
 -- the two calls: `next_peer_request` and `next_peer_request_allowing_retry`
 pub data Form : Type 0 where
@@ -118,6 +121,29 @@ module _ (form : Form) (source : ℕ) (l : Lent) (now : ℕ) (w : Window) where
       every-map (λ a. (was-swept (P .gone) a ≡ true) ⊎ Stands (hashes-in (l .chain)) (l .floor) (lesser (l .tip) (l .best)) a) (λ a. (was-swept (P .gone) a ≡ true) ⊎ OnChain a)
       (λ a k. elim k [ inl e ↦ inl e | inr e ↦ inr (on-chain a e) ]) (P .asks) (plan-source source l now w it)
 
+  -- ---- what is left where nothing is planned: everything where staged bytes are exhausted, and in the first form for an expired or cooling peer; the
+  -- sweep where there is then no capacity
+
+  pub exhausted-leaves : l .exhausted ≡ true → P ≡ no-request (stay w)
+  exhausted-leaves e = leaves form
+    where
+      leaves : (f : Form) → plan f source l now w ≡ no-request (stay w)
+      leaves first = elim (both (peer-has-expired-pending source now w || peer-in-staller-cooldown source now w)) [
+        | inl q ↦ first-none source l now w q
+        | inr q ↦ first-alike source l now w q ∙ retry-none source l now w e
+      ]
+      leaves allowing-retry = retry-none source l now w e
+
+  pub expired-or-cooling-leaves : (peer-has-expired-pending source now w || peer-in-staller-cooldown source now w) ≡ true → next-peer-request source l now w ≡ no-request (stay w)
+  expired-or-cooling-leaves e = first-none source l now w e
+
+  pub otherwise-alike : (peer-has-expired-pending source now w || peer-in-staller-cooldown source now w) ≡ false → next-peer-request source l now w ≡ next-peer-request-allowing-retry source l now w
+  otherwise-alike e = first-alike source l now w e
+
+  pub no-capacity-sweeps : l .exhausted ≡ false → compute-request-capacity source (l .bytes) (l .count) (expire-pending now w .window) ≡ no-capacity
+      → next-peer-request-allowing-retry source l now w ≡ no-request (expire-pending now w)
+  no-capacity-sweeps e c = retry-swept source l now w e c
+
   -- ---- "no entry is opened until the request is marked": the pending entries are those of before without what went
 
   pub nothing-opened : Picks (P .gone) (w .queue .pending) (P .window .queue .pending)
@@ -126,6 +152,12 @@ module _ (form : Form) (source : ℕ) (l : Lent) (now : ℕ) (w : Window) where
   -- where there is a request, the window was swept and its frontier rewound, and nothing else
   pub swept-and-rewound : is-empty (P .asks) ≡ false → (P .window ≡ maybe-rewind-request-frontier l (expire-pending now w .window)) × (P .gone ≡ expire-pending now w .gone)
   swept-and-rewound e = plan-left source l now w it e
+
+  -- it is rewound to the start height where this is below the frontier of the swept window, and the chain's hash there is neither pending nor staged
+  pub rewound-to-the-start : (x : Hash) → is-empty (P .asks) ≡ false → let v = expire-pending now w .window in let chain = hashes-in (l .chain) in P .window .frontier
+      ≡ cond (ltb (l .start) (v .frontier) && (ltb (l .start) (length chain) && not (is-pending v (ask (getD chain (l .start) x) (l .start)) || is-staged l (ask (getD chain (l .start) x) (l .start))))) (l .start) (v .frontier)
+  unfolding is-open
+  rewound-to-the-start x e = ap (λ (v : Window). v .frontier) (plan-left source l now w it e .0) ∙ rewound-frontier l (expire-pending now w .window) x
 
   -- ---- a plan that is marked at once for the same seat is not refused by 7 or 8, and the frontier is then the plan's next height
 
