@@ -10,3 +10,4 @@ pub mod Complete
 pub mod Left
 pub mod Unplanned
 pub mod Plan
+pub mod Calls

@@ -183,7 +183,7 @@ module _ (form : Form) (source : ℕ) (l : Lent) (now : ℕ) (w : Window) where
 
   -- the same of the public call: a request of the plan's two lists and next height, made of the words that the plan left at its own clock, has
   -- arguments that fit and is accepted, whatever headrooms and report are handed in with it; it leaves the frontier at the plan's next height
-  abbrev marking : ℕ → ℕ → Change
+  abbrev pub marking : ℕ → ℕ → Change
   marking bytes n = requests now source (ask-hashes (P .asks)) (ask-heights (P .asks)) (P .next) bytes n
 
   module _ (g : Sound now w) (bytes n : ℕ) where
