@@ -1,16 +1,15 @@
 -- THE SAME OF THE PUBLIC CALLS: of an accepted planning call on lent words, the plan that it writes and the words that it leaves. Assumes nothing.
-use mathlib.Core.Path.{_≡_, refl, sym, ap, subst, _∙_}
+use mathlib.Core.Path.{_≡_, refl, ap, subst, _∙_}
 use mathlib.Core.Bool.{false}
 use mathlib.Core.List.{List}
 use Prim.Native.Nat.{ℕ, _≤_}
-use native.Mathlib.Omega.{arith}
 use lib.ListN.{length}
 use borrow.Author.Tests.{eq-eqb}
 use Rattle.model.specs.Numbers.{max-height, max-seat, read-clock}
 use Rattle.model.specs.Lists.{any}
 use Rattle.model.specs.Window.{Window, with-clock}
 use Rattle.model.specs.Races.{is-empty}
-use Rattle.model.specs.Layout.{encode, window-of, is-window}
+use Rattle.model.specs.Layout.{encode, window-of}
 use Rattle.model.specs.Calls.{Ask}
 use Rattle.model.specs.Refusals.{Change, changes, plans, plans-retry, requests, checks, refusal-at, window-refusal, refusal}
 use Rattle.model.specs.Perform.{Outcome, perform, plan-after, words-after, changed, proposes}

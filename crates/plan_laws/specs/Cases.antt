@@ -4,7 +4,6 @@ use mathlib.Core.Logic.{inl, inr}
 use mathlib.Core.Bool.{true, _&&_, _||_}
 use mathlib.Core.List.{List, [], _∷_, _++_}
 use Prim.Native.Nat.{ℕ, _≤_, _<_}
-use native.Mathlib.Omega.{arith}
 use lib.Dec.{eqb, ltb, leb}
 use lib.ListN.{take, drop}
 use borrow.Author.Tests.{leb-true, ltb-true}
@@ -19,9 +18,6 @@ use Rattle.model.specs.Calls.{Ask}
 use Rattle.model.specs.Planning.{Lent, Draft, Scan, Proposal, no-request, non-empty-request, held-back, noticed, swept-asks, expired-request-entries, is-first-open, maybe-rewind-request-frontier, reach, clean-stretch, is-clean, clean-contiguous-peer-request, open-in-reach, candidates, next-after, extend-request-by-reverse-scan, scan-of, request-from, request-by, request-after, next-peer-request-allowing-retry, next-peer-request}
 use Rattle.model.specs.declared.Height.the-variants.{Unknown}
 use Rattle.laws.specs.Numbers.{both, and-left, and-right}
-use Rattle.laws.specs.Sound.{Sound}
-use Rattle.laws.specs.Parts.{sound-frontier}
-use Rattle.laws.specs.Lets.{Lets, Steady, lets-stay, lets-after, expire-lets}
 use Rattle.plan_laws.specs.Lists.{picked}
 
 -- ---- over the swept and rewound window
@@ -115,24 +111,3 @@ rewind-is l w = elim (both (ltb (l .start) (w .frontier) && is-first-open l w (d
 
 pub rewind-queue : (l : Lent) (w : Window) → maybe-rewind-request-frontier l w .queue ≡ w .queue
 rewind-queue l w = ap (λ (v : Window). v .queue) (rewind-is l w)
-
-pub rewind-steady : {c : ℕ} (l : Lent) (w : Window) → Sound c w → Steady c w (maybe-rewind-request-frontier l w)
-unfolding maybe-rewind-request-frontier
-rewind-steady l w g = elim (both (ltb (l .start) (w .frontier) && is-first-open l w (drop (l .start) (hashes-in (l .chain))))) [
-  | inl q ↦
-      let b = ltb-true (l .start) (w .frontier) (and-left (ltb (l .start) (w .frontier)) (is-first-open l w (drop (l .start) (hashes-in (l .chain)))) q) in
-      rw q (record { sound = sound-frontier g (l .start) (omega (arith, g .frontier)); same = refl })
-  | inr q ↦ rw q (record { sound = g; same = refl })
-]
-
--- the window after it and what went, as a step
-abbrev pub step-of : Proposal → Step
-step-of P = record { window = P .window; gone = P .gone }
-
--- it keeps a window sound, and what went is picked out of the pending entries
-pub plan-lets : {source : ℕ} {l : Lent} {now : ℕ} {w : Window} {P : Proposal} → Plan source l now w P → Sound now w → Lets now w (step-of P)
-plan-lets unasked g = lets-stay (record { sound = g; same = refl })
-plan-lets no-room g = expire-lets g
-plan-lets {source} {l} {now} {w} (room (made {asks} {next} f)) g =
-    let t = the-step source l now w in
-    rw (named-window t next asks, named-gone t next asks) (lets-after (maybe-rewind-request-frontier l) (expire-lets g) (rewind-steady l))

@@ -151,7 +151,7 @@ module _ (source : ℕ) (l : Lent) (now : ℕ) (w : Window) where
   plan-ge (room (made {asks = []} {next} f)) e = absurd (true≢false e)
   plan-ge (room (made {asks = a ∷ asks} {next} f)) e = from-ge refl f
 
-  pub plan-low : {P : Proposal} → Plan source l now w P → the-step source l now w .window .frontier ≤ max-height → P .next ≤ max-height
+  pub plan-low : {P : Proposal} → Plan source l now w P → P .window .frontier ≤ max-height → P .next ≤ max-height
   unfolding scan-of non-empty-request
   plan-low unasked b = omega arith
   plan-low no-room b = omega arith

@@ -29,13 +29,13 @@ use Rattle.laws.specs.Numbers.{both, lesser-le-first, lesser-le-second}
 use Rattle.laws.specs.Every.{and-so, blocks-le}
 use Rattle.laws.specs.Entries.{Rising, Picks, each-map}
 use Rattle.laws.specs.Sound.{Sound}
-use Rattle.laws.specs.Lets.{expire-lets}
+use Rattle.laws.specs.PlansKept.{plans-lets, plans-retry-lets}
 use Rattle.laws.specs.Fits.{FitsChange}
 use Rattle.plan_laws.specs.Lists.{Every, every-map, none-any, none-all}
 use Rattle.plan_laws.specs.Named.{NamesOnce, hashes-of, times-hashes, once-listed}
 use Rattle.plan_laws.specs.Chain.{Stands}
 use Rattle.plan_laws.specs.Drafts.{Good, expire-every, swept-every}
-use Rattle.plan_laws.specs.Cases.{Plan, retry-plan, first-plan, plan-lets, rewind-steady}
+use Rattle.plan_laws.specs.Cases.{Plan, retry-plan, first-plan}
 use Rattle.plan_laws.specs.Entries.{plan-good, plan-once, plan-where}
 use Rattle.plan_laws.specs.Complete.{is-planned, plan-complete}
 use Rattle.plan_laws.specs.Left.{was-swept, plan-picks, plan-within, plan-bytes, plan-source, plan-left, plan-ge, plan-low, marked-frontier, asks-back, heights-low}
@@ -163,7 +163,11 @@ module _ (form : Form) (source : ℕ) (l : Lent) (now : ℕ) (w : Window) where
 
   module _ (g : Sound now w) where
     pub left-sound : Sound now (P .window)
-    left-sound = plan-lets it g .sound
+    left-sound = keeps form
+      where
+        keeps : (f : Form) → Sound now (plan f source l now w .window)
+        keeps first = plans-lets source l g .sound
+        keeps allowing-retry = plans-retry-lets source l g .sound
 
     -- neither 7 nor 8
     pub marked-at-once : request-refusal (P .asks) (P .window) ≡ 0
@@ -192,7 +196,7 @@ module _ (form : Form) (source : ℕ) (l : Lent) (now : ℕ) (w : Window) where
         let low : Ask → Type 0 = λ a. a .height ≤ max-height in
         let swept = swept-every low (expire-pending now w .gone) (expire-every (λ e. e .height ≤ max-height) now w (each-map (λ e k. k .height) (w .queue .pending) (g .queue .each))) in (
           heights-low (P .asks) (plan-where source l now w low swept (λ a k. omega (arith, k .high, lesser-le-first (l .tip) (l .best))) it),
-          plan-low source l now w it (rewind-steady l (expire-pending now w .window) (expire-lets g .sound) .sound .frontier),
+          plan-low source l now w it (left-sound g .frontier),
         )
 
     pub marking-accepted : source ≤ max-seat → (room : ℕ) → refusal-at (checks (marking bytes n)) (with-clock now (P .window)) room ≡ 0
