@@ -12,7 +12,7 @@ use Rattle.model.specs.Races.{is-empty}
 use Rattle.model.specs.Layout.{encode, window-of}
 use Rattle.model.specs.Calls.{Ask}
 use Rattle.model.specs.Refusals.{Change, changes, plans, plans-retry, requests, checks, refusal-at, window-refusal, refusal}
-use Rattle.model.specs.Perform.{Outcome, perform, plan-after, words-after, changed, proposes}
+use Rattle.model.specs.Perform.{Outcome, says, plan-values, perform, plan-after, words-after, answer-after, changed, proposes}
 use Rattle.model.specs.Planning.{Lent, Proposal, is-pending, ask-hashes, ask-heights}
 use Rattle.model.specs.declared.Release.{Release}
 use Rattle.laws.specs.Sound.{Sound}
@@ -32,10 +32,10 @@ comes-to : (form : Form) (c source : ℕ) (l : Lent) (a b : ℕ) (ws : List ℕ)
     → let o = perform (changes (planning form c source l a b)) ws rs in
     let now = read-clock (window-of ws .clock) c in
     let P = plan form source l now (window-of ws) in
-    (o .plan ≡ P .asks) × (o .words ≡ encode (with-clock now (P .window)))
-unfolding perform plan-after words-after changed proposes
-comes-to first c source l a b ws rs e = (rw e, rw e)
-comes-to allowing-retry c source l a b ws rs e = (rw e, rw e)
+    (o .plan ≡ P .asks) × (o .words ≡ encode (with-clock now (P .window))) × (o .answer ≡ says (length (P .gone)) (plan-values (P .asks) (P .next)))
+unfolding perform plan-after words-after answer-after changed proposes
+comes-to first c source l a b ws rs e = (rw e, rw e, rw e)
+comes-to allowing-retry c source l a b ws rs e = (rw e, rw e, rw e)
 
 -- what it may rely on
 admits : (form : Form) (c source : ℕ) (l : Lent) (a b : ℕ) (ws : List ℕ) (room : ℕ) → refusal (changes (planning form c source l a b)) ws room ≡ 0
@@ -70,6 +70,10 @@ module _ (form : Form) (c source : ℕ) (l : Lent) (a b : ℕ) (ws : List ℕ) (
   -- its entries are those of the definitions' plan, at the moment that its clock stands for
   pub writes-the-plan : done .plan ≡ P .asks
   writes-the-plan = comes-to form c source l a b ws rs accepted .0
+
+  -- its answer says how many were swept, how many entries there are, and the next height; no request, neither
+  pub says-the-next : done .answer ≡ says (length (P .gone)) (plan-values (P .asks) (P .next))
+  says-the-next = comes-to form c source l a b ws rs accepted .2
 
   sound : Sound now (window-of ws)
   sound = admits form c source l a b ws (length rs) accepted .0
