@@ -80,3 +80,7 @@ module _ (h : Hash) (hw : Words h) (l : List ℕ) (lw : AllWords l) where
           | inl t ↦ ap (λ (y : ℕ). same h (hash-at l y)) (eqb-true k i t) ∙ s
           | inr t ↦ c .1 .1 k (omega (arith, eqb-false k i t)) q
         ]) (e ∙ g .links i (omega (arith, c .0)) ∙ ap (λ (y : ℕ). last y l i) b)
+
+-- a link leads to an earlier place
+pub next-less : (n : ℕ) (l index : List ℕ) → Indexed n l index → (j i : ℕ) → j ≤ linked n (length index) → 0 < j → i ≡ j - 1 → getD index (1024 + i) 0 < j
+next-less n l index g j i h z r = omega (arith, g .links i (omega arith), last-le (bucket (hash-at l i)) l i)

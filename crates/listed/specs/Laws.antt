@@ -12,7 +12,7 @@ use lib.Dec.{eqb}
 use borrow.Author.Tests.{eqb-true, eqb-false}
 use Rattle.model.specs.Hash.{hash}
 use Rattle.model.specs.declared.Hash.{Hash}
-use Rattle.laws.specs.Numbers.{both, lesser-first, lesser-second}
+use Rattle.laws.specs.Numbers.{both, lesser-first, lesser-second, lesser-le-first, lesser-le-second}
 use Rattle.listed.specs.Index.{hash-at, bucket, last, linked, Sized, Indexed, Cleared, Empty, Alike}
 
 -- ---- buckets
@@ -20,6 +20,9 @@ use Rattle.listed.specs.Index.{hash-at, bucket, last, linked, Sized, Ind
 pub bucket-below : (h : Hash) → bucket h < 1024
 unfolding bucket
 bucket-below h = omega arith
+
+pub is-below : (b : ℕ) (h : Hash) → b ≡ bucket h → b < 1024
+is-below b h e = omega (arith, bucket-below h)
 
 module _ (b : ℕ) (list : List ℕ) where
   pub last-le : (n : ℕ) → last b list n ≤ n
@@ -44,8 +47,8 @@ module _ (b : ℕ) (list : List ℕ) where
   last-in zero i e = absurd (omega arith)
   last-in (suc n) i e = elim (both (eqb (bucket (hash-at list n)) b)) [
     | inl q ↦
-      let k : i ≡ n = omega (arith, last-hit n q) in
-      (omega arith, ap (λ (m : ℕ). bucket (hash-at list m)) k ∙ eqb-true (bucket (hash-at list n)) b q)
+        let k : i ≡ n = omega (arith, last-hit n q) in
+        (omega arith, ap (λ (m : ℕ). bucket (hash-at list m)) k ∙ eqb-true (bucket (hash-at list n)) b q)
     | inr q ↦ let r = last-in n i (sym (last-miss n q) ∙ e) in (omega (arith, r .0), r .1)
   ]
 
@@ -78,7 +81,25 @@ pub linked-full : (n size : ℕ) → size - 1024 ≤ n → linked n size ≡ siz
 unfolding linked
 linked-full n size h = lesser-second n (size - 1024) h
 
+pub linked-le : (n size : ℕ) → linked n size ≤ n
+unfolding linked
+linked-le n size = lesser-le-first n (size - 1024)
+
+pub linked-le-links : (n size : ℕ) → linked n size ≤ size - 1024
+unfolding linked
+linked-le-links n size = lesser-le-second n (size - 1024)
+
 -- ---- an index of no hash
+
+-- the first n words are 0
+abbrev pub Zeros : ℕ → List ℕ → Type 0
+Zeros n l = (k : ℕ) → k < n → getD l k 0 ≡ 0
+
+pub zeros-more : (n : ℕ) (l : List ℕ) → n < length l → Zeros n l → Zeros (n + 1) (set l n 0)
+zeros-more n l h z = λ k i. elim (both (eqb k n)) [
+  | inl q ↦ ap (λ (j : ℕ). getD (set l n 0) j 0) (eqb-true k n q) ∙ getD-set-same l n 0 0 h
+  | inr q ↦ getD-set-other l n k 0 0 (eqb-false k n q) ∙ z k (omega (arith, eqb-false k n q))
+]
 
 pub indexed-none : (index : List ℕ) → Sized index → Cleared index → Empty index
 unfolding last
@@ -88,7 +109,8 @@ indexed-none index s c = λ list.
 
 pub zeros-none : (n : ℕ) → 1024 ≤ n → n ≤ 4294967296 → Empty (replicate n 0)
 zeros-none n p q =
-    indexed-none (replicate n 0) (omega (arith, length-replicate n 0), omega (arith, length-replicate n 0)) (λ b h. getD-replicate n b 0 0 (omega arith))
+    let e : length (replicate {A = ℕ} n 0) ≡ n = length-replicate {A = ℕ} n 0 in
+    indexed-none (replicate n 0) (omega (arith, e), omega (arith, e)) (λ b h. getD-replicate n b 0 0 (omega arith))
 
 -- ---- another list
 
@@ -115,8 +137,8 @@ indexed-alike n l m index s g =
       sized = g .sized;
       heads = λ b h. g .heads b h ∙ last-alike b k l m (upto k few);
       links = λ i h.
-        let e = ap bucket (s i (omega arith)) in
-        g .links i h ∙ ap (λ (b : ℕ). last b l i) e ∙ last-alike (bucket (hash-at m i)) i l m (upto i (omega arith));
+          let e = ap bucket (s i (omega arith)) in
+          g .links i h ∙ ap (λ (b : ℕ). last b l i) e ∙ last-alike (bucket (hash-at m i)) i l m (upto i (omega arith));
     }
 
 -- ---- one hash more
@@ -155,32 +177,32 @@ module _ (n : ℕ) (list index : List ℕ) (g : Indexed n list index) where
     heads-more : (k : ℕ) → k < 1024 → getD more k 0 ≡ last k list (suc n)
     heads-more k l = elim (both (eqb (bucket (hash-at list n)) k)) [
       | inl q ↦
-        let r : k ≡ b = sym (e ∙ eqb-true (bucket (hash-at list n)) k q) in
-        ap (λ (j : ℕ). getD more j 0) r ∙ getD-set-same linking b (n + 1) 0 (omega (arith, long, below)) ∙ add-one n ∙ sym (last-hit k list n q)
+          let r : k ≡ b = sym (e ∙ eqb-true (bucket (hash-at list n)) k q) in
+          ap (λ (j : ℕ). getD more j 0) r ∙ getD-set-same linking b (n + 1) 0 (omega (arith, long, below)) ∙ add-one n ∙ sym (last-hit k list n q)
       | inr q ↦
-        getD-set-other linking b k (n + 1) 0 (λ r. eqb-false (bucket (hash-at list n)) k q (sym e ∙ sym r))
-        ∙ getD-set-other index (1024 + n) k (getD index b 0) 0 (λ r. omega (arith, r))
-        ∙ g .heads k l
-        ∙ ap (last k list) before
-        ∙ sym (last-miss k list n q)
+          getD-set-other linking b k (n + 1) 0 (λ r. eqb-false (bucket (hash-at list n)) k q (sym e ∙ sym r))
+          ∙ getD-set-other index (1024 + n) k (getD index b 0) 0 (λ r. omega (arith, r))
+          ∙ g .heads k l
+          ∙ ap (last k list) before
+          ∙ sym (last-miss k list n q)
     ]
 
     links-more : (i : ℕ) → i < suc n → getD more (1024 + i) 0 ≡ last (bucket (hash-at list i)) list i
     links-more i l =
         getD-set-other linking b (1024 + i) (n + 1) 0 (λ r. omega (arith, below, r))
         ∙ elim (both (eqb i n)) [
-      | inl q ↦
-        let r : i ≡ n = eqb-true i n q in
-        ap (λ (j : ℕ). getD linking (1024 + j) 0) r
-        ∙ getD-set-same index (1024 + n) (getD index b 0) 0 (omega arith)
-        ∙ g .heads b below
-        ∙ ap (last b list) before
-        ∙ ap (λ (x : ℕ). last x list n) e
-        ∙ ap (λ (j : ℕ). last (bucket (hash-at list j)) list j) (sym r)
-      | inr q ↦
-        getD-set-other index (1024 + n) (1024 + i) (getD index b 0) 0 (λ r. eqb-false i n q (omega (arith, r)))
-        ∙ g .links i (omega (arith, before, eqb-false i n q))
-    ]
+          | inl q ↦
+              let r : i ≡ n = eqb-true i n q in
+              ap (λ (j : ℕ). getD linking (1024 + j) 0) r
+              ∙ getD-set-same index (1024 + n) (getD index b 0) 0 (omega arith)
+              ∙ g .heads b below
+              ∙ ap (last b list) before
+              ∙ ap (λ (x : ℕ). last x list n) e
+              ∙ ap (λ (j : ℕ). last (bucket (hash-at list j)) list j) (sym r)
+          | inr q ↦
+              getD-set-other index (1024 + n) (1024 + i) (getD index b 0) 0 (λ r. eqb-false i n q (omega (arith, r)))
+              ∙ g .links i (omega (arith, before, eqb-false i n q))
+        ]
 
     pub indexed-more : Indexed (n + 1) list more
     indexed-more = record {
