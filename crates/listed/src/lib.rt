@@ -99,9 +99,9 @@ fn add_all(index: &mut [u32], list: &[u64])
     requires { ⌜ Empty (now index) ⌝ }
     ensures { λ _. ⌜ Indexed (length (now (list .entry)) / 4) (now (list .entry)) (now (index .exit)) ⌝ }
 {
-    let n = list.len() / HASH_WORDS;
+    let hashes = list.len() / HASH_WORDS;
     let mut i: usize = 0;
-    while i < n {
+    while i < hashes {
         add(index, list, i);
         i += 1;
     }
