@@ -96,7 +96,7 @@ module _ (l : Lent) where
     | inr q ↦ ap (λ (b : Bool). b || any (same h) seen) q
   ]
 
-  kept-none : (a : Ask) (rest : List Ask) → is-refused l a ≡ true → kept (a ∷ rest) ≡ kept rest
+  pub kept-none : (a : Ask) (rest : List Ask) → is-refused l a ≡ true → kept (a ∷ rest) ≡ kept rest
   unfolding select
   kept-none a rest r = ap (λ (b : Bool). cond (not b) (a ∷ kept rest) (kept rest)) r
 

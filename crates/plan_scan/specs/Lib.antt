@@ -1,3 +1,4 @@
 pub mod Scan
 pub mod Found
 pub mod Notes
+pub mod Request

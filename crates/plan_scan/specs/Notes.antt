@@ -53,11 +53,11 @@ lower-twice (Known k) (Known m) n =
     ap (λ (x : ℕ). Known x) e
 
 module _ (l : Lent) where
-  noticed-refused : (a : Ask) (rest : List Ask) (low : Height) → is-refused l a ≡ true → noticed l (a ∷ rest) low ≡ noticed l rest (lower-of low (a .height))
+  pub noticed-refused : (a : Ask) (rest : List Ask) (low : Height) → is-refused l a ≡ true → noticed l (a ∷ rest) low ≡ noticed l rest (lower-of low (a .height))
   unfolding noticed
   noticed-refused a rest low r = ap (λ (b : Bool). noticed l rest (cond b (lower-of low (a .height)) low)) r
 
-  noticed-not : (a : Ask) (rest : List Ask) (low : Height) → is-refused l a ≡ false → noticed l (a ∷ rest) low ≡ noticed l rest low
+  pub noticed-not : (a : Ask) (rest : List Ask) (low : Height) → is-refused l a ≡ false → noticed l (a ∷ rest) low ≡ noticed l rest low
   unfolding noticed
   noticed-not a rest low r = ap (λ (b : Bool). noticed l rest (cond b (lower-of low (a .height)) low)) r
 
