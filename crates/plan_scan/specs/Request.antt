@@ -128,7 +128,7 @@ named-le seen (a ∷ asks) = elim (both (any (same (a .hash)) seen)) [
   | inr q ↦ rw q (omega (arith, named-le (a .hash ∷ seen) asks))
 ]
 
-heights-length : (n : ℕ) (hs : List Hash) → length (heights-from n hs) ≡ length hs
+pub heights-length : (n : ℕ) (hs : List Hash) → length (heights-from n hs) ≡ length hs
 unfolding heights-from
 heights-length n [] = refl
 heights-length n (h ∷ hs) = ap suc (heights-length (suc n) hs)

@@ -1,5 +1,5 @@
 -- The scan as the code makes it: it looks at one height after the other, takes what is open, and stops when it has all that is wanted.
--- Definitions, and the two laws of a turn. Assumes nothing.
+-- Definitions, and the laws of a turn. Assumes nothing.
 use mathlib.Core.Path.{_≡_, refl, sym, ap, _∙_}
 use mathlib.Core.Bool.{Bool, true, false, _||_}
 use mathlib.Core.List.{List, [], _∷_, _++_, map}
@@ -66,13 +66,12 @@ module _ (es : List Entry) (staged refused : List ℕ) where
   unfolding scan-over
   scan-by rest a s k e = ap (λ (x : Look). scan-over es staged refused rest (looked x a s)) e
 
-  -- one height more at the end
-  pub scan-more : (rest : List Ask) (a : Ask) (s : Scanned)
-      → scan-over es staged refused (rest ++ (a ∷ [])) s
-      ≡ looked (look es staged refused a (scan-over es staged refused rest s)) a (scan-over es staged refused rest s)
+  -- one stretch after the other
+  pub scan-append : (rest more : List Ask) (s : Scanned)
+      → scan-over es staged refused (rest ++ more) s ≡ scan-over es staged refused more (scan-over es staged refused rest s)
   unfolding scan-over
-  scan-more [] a s = refl
-  scan-more (b ∷ rest) a s = scan-more rest a (looked (look es staged refused b s) b s)
+  scan-append [] more s = refl
+  scan-append (b ∷ rest) more s = scan-append rest more (looked (look es staged refused b s) b s)
 
   look-full : (a : Ask) (s : Scanned) → s .left ≡ 0 → look es staged refused a s ≡ PassBy
   look-full a s z = ap (λ (b : Bool). look-of (b || passes es staged (plan-hashes (s .asks)) a) (names refused (a .hash))) (eq-eqb (s .left) 0 z)
