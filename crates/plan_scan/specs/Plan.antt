@@ -2,12 +2,12 @@
 use mathlib.Core.Path.{_≡_, refl, sym, ap, subst, _∙_}
 use mathlib.Core.Bool.{Bool, true, false, cond, _||_}
 use mathlib.Core.List.{List, [], _∷_, _++_, append-assoc}
-use Prim.Native.Nat.{ℕ, zero, suc, _+_, _*_, _-_, _≤_}
+use Prim.Native.Nat.{ℕ, zero, suc, _+_, _*_, _-_, _≤_, _<_}
 use native.Mathlib.Omega.{arith}
-use lib.ListN.{length, take, drop, length-append, length-map}
-use lib.Seq.{take-at, drop-append-add, drop-drop}
+use lib.ListN.{length, take, drop, set, length-append, length-map}
+use lib.Seq.{take-at, drop-append-add, drop-drop, set-split, length-take-le}
 use lib.Dec.{eqb, eqb·suc-zero}
-use borrow.Author.Tests.{ne-eqb}
+use borrow.Author.Tests.{eq-eqb, ne-eqb}
 use Rattle.model.specs.Numbers.{greater, next-height}
 use Rattle.model.specs.Lists.{any}
 use Rattle.model.specs.Hash.{same, hash-words, hashes-in}
@@ -18,6 +18,8 @@ use Rattle.model.specs.declared.Hash.{Hash}
 use Rattle.model.specs.declared.Entry.{Entry}
 use Rattle.model.specs.declared.Height.{Height}
 use Rattle.model.specs.declared.Height.the-variants.{Unknown, Known}
+use Rattle.listed.specs.Index.{Indexed}
+use Rattle.listed.specs.Laws.{alike-taken, indexed-alike}
 use Rattle.plan_scan.specs.declared.Look.{Look}
 use Rattle.plan_scan.specs.declared.Look.the-variants.{PassBy, NoteRefused, Take}
 use Rattle.plan_scan.specs.Scan.{Scanned, plan-hashes, passes, look-of, first-of, look, looked}
@@ -37,6 +39,22 @@ written-more u v l n e =
     (λ i. take-at u d n (sym e) i ++ (v ++ drop (e i + length v) (u ++ d)))
     ∙ ap (λ (x : List ℕ). u ++ (v ++ x)) (drop-append-add u d (length v) ∙ drop-drop (length v) (length u) l ∙ ap (λ (m : ℕ). drop m l) k)
     ∙ sym (append-assoc u v (drop (length (u ++ v)) l))
+
+-- what a store of a part leaves
+pub put-placed : (i z : ℕ) (v y l : List ℕ) → z ≡ length v → y ≡ v → take i l ++ (y ++ drop z (drop i l)) ≡ placed i v l
+unfolding placed
+put-placed i z v y l e q = (λ j. take i l ++ (q j ++ drop (e j) (drop i l))) ∙ ap (λ (x : List ℕ). take i l ++ (v ++ x)) (drop-drop (length v) i l)
+
+-- what a store of one word leaves
+pub set-placed : (i x : ℕ) (l : List ℕ) → i < length l → set l i x ≡ placed i (x ∷ []) l
+unfolding placed
+set-placed i x l h = let e : suc i ≡ i + 1 = omega arith in set-split l i x h ∙ ap (λ (n : ℕ). take i l ++ (x ∷ drop n l)) e
+
+-- an index of the hashes before it stands
+pub indexed-placed : (n : ℕ) (v hs hs′ ix : List ℕ) → 4 * n ≤ length hs → hs′ ≡ placed (4 * n) v hs → Indexed n hs ix → Indexed n hs′ ix
+unfolding placed
+indexed-placed n v hs hs′ ix h e g =
+    indexed-alike n hs hs′ ix (alike-taken n hs hs′ (sym (ap (take (4 * n)) e ∙ take-at (take (4 * n) hs) _ (4 * n) (length-take-le (4 * n) hs h)))) g
 
 -- ---- asks in words
 
@@ -106,6 +124,21 @@ abbrev pub words-after : Look → ℕ → List ℕ → List ℕ → List ℕ
 words-after PassBy i v l = l
 words-after NoteRefused i v l = l
 words-after Take i v l = placed i v l
+
+-- the plan's lists and its index after a height
+abbrev pub TakenAt : Look → ℕ → Hash → ℕ → List ℕ → List ℕ → List ℕ → List ℕ → List ℕ → Type 0
+TakenAt k n h height hs ts hs′ ts′ ix′ =
+    (hs′ ≡ words-after k (4 * n) (hash-words h) hs) × ((ts′ ≡ words-after k n (height ∷ []) ts) × Indexed (count-after k n) hs′ ix′)
+
+pub first-noted : (k : Look) (first height : ℕ) → k ≡ NoteRefused → first ≡ 0 → height + 1 ≡ first-after k first height
+first-noted k first height e z = sym ((λ i. first-after (e i) first height) ∙ ap (λ (b : Bool). cond b (height + 1) first) (eq-eqb first 0 z))
+
+pub first-stays : (k : Look) (first height : ℕ) → k ≡ NoteRefused → (first ≡ 0 → ⊥) → first ≡ first-after k first height
+first-stays k first height e z = sym ((λ i. first-after (e i) first height) ∙ ap (λ (b : Bool). cond b (height + 1) first) (ne-eqb first 0 z))
+
+pub height-some : (n : ℕ) → (n ≡ 0 → ⊥) → Known (n - 1) ≡ height-of n
+height-some zero z = absurd (z refl)
+height-some (suc n) z = let e : suc n - 1 ≡ n = omega arith in ap (λ (m : ℕ). Known m) e
 
 -- the lists hold what the scan has come to
 pub record Drawn (s : Scanned) (hs₀ ts₀ : List ℕ) (full n low at : ℕ) (hs ts : List ℕ) : Type 0 where
