@@ -6,3 +6,4 @@ pub mod Plan
 pub mod Contracts
 pub mod Steps
 pub mod Turns
+pub mod Proposes

@@ -6,7 +6,7 @@ ghost use mathlib.Core.Bool.{true, cond, not, _&&_, _||_};
 ghost use mathlib.Core.List.{_∷_, []};
 ghost use Prim.Native.Nat.{suc, _+_, _-_, _*_, _/_, _<_, _≤_};
 ghost use lib.ListN.{length, take, drop};
-ghost use lib.Dec.{eqb, ltb};
+ghost use lib.Dec.{eqb, ltb, leb};
 ghost use Rattle.model.specs.Numbers.{lesser, greater, next-height, max-height};
 ghost use Rattle.model.specs.Lists.{any};
 ghost use Rattle.model.specs.Hash.{same, hash-words, hashes-in};
@@ -17,8 +17,7 @@ ghost use Rattle.laws.specs.Whole.{Whole};
 ghost use Rattle.listed.specs.Index.{Indexed};
 ghost use Rattle.plan_scan.specs.Scan.{look-of};
 ghost use Rattle.plan_scan.specs.Plan.{height-of, count-after, first-after, next-after, placed, TakenAt};
-ghost use Rattle.plan_scan.specs.Request.{is-unknown, met-none};
-ghost use Rattle.plan_scan.specs.Contracts.{first-open, Rewinds, Asked, Scannable, Scans, scan-says, scan-at};
+ghost use Rattle.plan_scan.specs.Contracts.{first-open, Rewinds, Asked, Scannable, Scans, Plannable, Proposes, scan-says, scan-at};
 use model::Hash;
 use model::Height;
 use model::limits;
@@ -346,4 +345,125 @@ fn met_none(taken: usize, pending: usize, staged: usize, first: u64) -> bool
     ensures { λ r. ⌜ r ≡ (eqb taken 0 && (eqb pending 0 && (eqb staged 0 && eqb first 0))) ⌝ }
 {
     (taken == 0) & ((pending == 0) & ((staged == 0) & (first == 0)))
+}
+
+// The next height: a clean stretch is not held back.
+fn next_from(
+    clean: bool,
+    is_full: bool,
+    last: u64,
+    tip: u64,
+    low: Height,
+    first: u64,
+    frontier: u64,
+    next: u64,
+) -> u64
+    requires { ⌜ (last ≤ max-height) × (tip ≤ max-height) ⌝ }
+    ensures { λ r. ⌜ r ≡ cond clean (greater frontier (next-height last)) (held-back (height-of first) frontier (held-back low frontier (cond «is_full» next (greater next (next-height tip))))) ⌝ }
+{
+    if clean {
+        return numbers::greater(frontier, numbers::next_height(last));
+    }
+    next_scanned(is_full, tip, low, first, frontier, next)
+}
+
+// ---- the request
+
+// `non-empty-request`
+fn non_empty_request(count: usize, next: u64) -> Proposed
+    ensures { λ r. ⌜ (r .count ≡ count) × (r .next ≡ cond (eqb count 0) 0 next) ⌝ }
+{
+    if count == 0 {
+        return Proposed { count, next: 0 };
+    }
+    Proposed { count, next }
+}
+
+// Whether there is a height to look at, and something is wanted.
+fn scans(height: u64, tip: u64, limit: u64) -> bool
+    ensures { λ r. ⌜ r ≡ (leb height tip && ltb 0 limit) ⌝ }
+{
+    (height <= tip) & (0 < limit)
+}
+
+// `request-from`, where there is something to scan.
+fn request_by_scan(
+    words: &[u64],
+    chain: &[u64],
+    staged: &[u64],
+    staged_index: &[u32],
+    refused: &[u64],
+    refused_index: &[u32],
+    hashes: &mut [u64],
+    heights: &mut [u32],
+    index: &mut [u32],
+    scan: RequestScan,
+    count: usize,
+    low: Height,
+) -> Proposed
+    requires { ⌜ Asked (now words) (now staged) (now «staged_index») (now refused) (now «refused_index») × (Plannable (now words) (now chain) (now hashes) (now heights) (now index) scan count × ((scan .height ≤ scan .tip) × (0 < scan .limit))) ⌝ }
+    ensures { λ r. ⌜ Proposes (now (chain .entry)) (now (staged .entry)) (now (refused .entry)) (window-of (now (words .entry))) (now (hashes .entry)) (now (heights .entry)) scan count low (now (hashes .exit)) (now (heights .exit)) r ⌝ }
+{
+    let pending = state_queue::pending_count(words);
+    let held = staged.len() / HASH_WORDS;
+    let last = reach(scan.height, scan.tip, scan.limit, pending, held, count);
+    let full = count + scan.limit as usize;
+    let r = scan_chain(
+        words,
+        chain,
+        staged,
+        staged_index,
+        refused,
+        refused_index,
+        hashes,
+        heights,
+        index,
+        scan.height,
+        last,
+        count,
+        full,
+        scan.next,
+    );
+    let clean = met_none(count, pending, held, r.first);
+    let is_full = r.count == full;
+    let next = next_from(clean, is_full, last, scan.tip, low, r.first, scan.next, r.next);
+    non_empty_request(r.count, next)
+}
+
+// `request-from`: asks and next height, of every step that leaves this window and every draft with this plan.
+pub fn request_from(
+    words: &[u64],
+    chain: &[u64],
+    staged: &[u64],
+    staged_index: &[u32],
+    refused: &[u64],
+    refused_index: &[u32],
+    hashes: &mut [u64],
+    heights: &mut [u32],
+    index: &mut [u32],
+    scan: RequestScan,
+    count: usize,
+    low: Height,
+) -> Proposed
+    requires { ⌜ Asked (now words) (now staged) (now «staged_index») (now refused) (now «refused_index») × Plannable (now words) (now chain) (now hashes) (now heights) (now index) scan count ⌝ }
+    ensures { λ r. ⌜ Proposes (now (chain .entry)) (now (staged .entry)) (now (refused .entry)) (window-of (now (words .entry))) (now (hashes .entry)) (now (heights .entry)) scan count low (now (hashes .exit)) (now (heights .exit)) r ⌝ }
+{
+    if !scans(scan.height, scan.tip, scan.limit) {
+        let next = held_back(low, scan.next, scan.next);
+        return non_empty_request(count, next);
+    }
+    request_by_scan(
+        words,
+        chain,
+        staged,
+        staged_index,
+        refused,
+        refused_index,
+        hashes,
+        heights,
+        index,
+        scan,
+        count,
+        low,
+    )
 }
