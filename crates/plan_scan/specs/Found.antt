@@ -111,7 +111,7 @@ module _ (l : Lent) where
     refused-skip seen r = elim (both (any (same (a .hash)) seen)) [
       | inl q ↦ ap (λ (b : Bool). kept (cond b (first-named seen rest) (a ∷ first-named (a .hash ∷ seen) rest))) q
       | inr q ↦ ap (λ (b : Bool). kept (cond b (first-named seen rest) (a ∷ first-named (a .hash ∷ seen) rest))) q
-        ∙ kept-none a (first-named (a .hash ∷ seen) rest) r ∙ later (a .hash ∷ seen) seen (alike-refused seen (a .hash) r)
+          ∙ kept-none a (first-named (a .hash ∷ seen) rest) r ∙ later (a .hash ∷ seen) seen (alike-refused seen (a .hash) r)
     ]
 
     alike-turn : (seen others : List Hash) → Alike seen others → kept (first-named seen (a ∷ rest)) ≡ kept (first-named others (a ∷ rest))
@@ -120,12 +120,12 @@ module _ (l : Lent) where
       | inl r ↦ refused-skip seen r ∙ later seen others e ∙ sym (refused-skip others r)
       | inr r ↦ elim (both (any (same (a .hash)) others)) [
         | inl q ↦ ap (λ (b : Bool). kept (cond b (first-named seen rest) (a ∷ first-named (a .hash ∷ seen) rest))) (e (a .hash) r ∙ q) ∙ later seen others e
-          ∙ sym (ap (λ (b : Bool). kept (cond b (first-named others rest) (a ∷ first-named (a .hash ∷ others) rest))) q)
+            ∙ sym (ap (λ (b : Bool). kept (cond b (first-named others rest) (a ∷ first-named (a .hash ∷ others) rest))) q)
         | inr q ↦ ap (λ (b : Bool). kept (cond b (first-named seen rest) (a ∷ first-named (a .hash ∷ seen) rest))) (e (a .hash) r ∙ q)
-          ∙ kept-one a (first-named (a .hash ∷ seen) rest) r
-          ∙ ap (λ (x : List Ask). a ∷ x) (later (a .hash ∷ seen) (a .hash ∷ others) (alike-cons seen others (a .hash) e))
-          ∙ sym (kept-one a (first-named (a .hash ∷ others) rest) r)
-          ∙ sym (ap (λ (b : Bool). kept (cond b (first-named others rest) (a ∷ first-named (a .hash ∷ others) rest))) q)
+            ∙ kept-one a (first-named (a .hash ∷ seen) rest) r
+            ∙ ap (λ (x : List Ask). a ∷ x) (later (a .hash ∷ seen) (a .hash ∷ others) (alike-cons seen others (a .hash) e))
+            ∙ sym (kept-one a (first-named (a .hash ∷ others) rest) r)
+            ∙ sym (ap (λ (b : Bool). kept (cond b (first-named others rest) (a ∷ first-named (a .hash ∷ others) rest))) q)
       ]
     ]
 
@@ -200,7 +200,7 @@ module _ (l : Lent) (w : Window) where
   wanted-refused seen a rest r = elim (both (passes es (l .staged) seen a)) [
     | inl p ↦ wanted-skip seen a rest p
     | inr p ↦ ap (kept l) (opens-new l w seen a rest p) ∙ kept-none l a (opens l w (a .hash ∷ seen) rest) r
-      ∙ kept-alike l (select (is-open l w) rest) (a .hash ∷ seen) seen (alike-refused l seen (a .hash) r)
+        ∙ kept-alike l (select (is-open l w) rest) (a .hash ∷ seen) seen (alike-refused l seen (a .hash) r)
   ]
 
   pub look-is : (a : Ask) (s : Scanned) (b c r : Bool) → eqb (s .left) 0 ≡ b → passes es (l .staged) (plan-hashes (s .asks)) a ≡ c → names (l .refused) (a .hash) ≡ r
@@ -216,12 +216,12 @@ module _ (l : Lent) (w : Window) where
       | inl r ↦ elim (both (passes es (l .staged) (plan-hashes (s .asks)) a)) [
         | inl p ↦ takes-by (wanted-refused seen a rest r) (scan-by es (l .staged) (l .refused) rest a s PassBy (look-is a s false true true z p r)) (takes rest s seen e)
         | inr p ↦ takes-by (wanted-refused seen a rest r) (scan-by es (l .staged) (l .refused) rest a s NoteRefused (look-is a s false false true z p r))
-          (takes-noted s a _ _ (takes rest (looked NoteRefused a s) seen e))
+            (takes-noted s a _ _ (takes rest (looked NoteRefused a s) seen e))
       ]
       | inr n ↦ elim (both (passes es (l .staged) (plan-hashes (s .asks)) a)) [
         | inl p ↦ takes-by (wanted-skip seen a rest (same-pass a s seen e n ∙ p)) (scan-by es (l .staged) (l .refused) rest a s PassBy (look-is a s false true false z p n)) (takes rest s seen e)
         | inr p ↦ takes-by (wanted-new seen a rest (same-pass a s seen e n ∙ p) n) (scan-by es (l .staged) (l .refused) rest a s Take (look-is a s false false false z p n))
-          (takes-one s a _ _ (eqb-false (s .left) 0 z) (takes rest (looked Take a s) (a .hash ∷ seen) (more a s seen e)))
+            (takes-one s a _ _ (eqb-false (s .left) 0 z) (takes rest (looked Take a s) (a .hash ∷ seen) (more a s seen e)))
       ]
     ]
   ]

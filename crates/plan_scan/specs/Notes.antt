@@ -67,7 +67,7 @@ module _ (l : Lent) where
   noticed-from [] low = refl
   noticed-from (a ∷ asks) low = elim (both (is-refused l a)) [
     | inl r ↦ noticed-refused a asks low r ∙ noticed-from asks (lower-of low (a .height)) ∙ lower-twice low (noticed l asks Unknown) (a .height)
-      ∙ ap (lower-by low) (sym (noticed-from asks (Known (a .height))) ∙ sym (noticed-refused a asks Unknown r))
+        ∙ ap (lower-by low) (sym (noticed-from asks (Known (a .height))) ∙ sym (noticed-refused a asks Unknown r))
     | inr r ↦ noticed-not a asks low r ∙ noticed-from asks low ∙ ap (lower-by low) (sym (noticed-not a asks Unknown r))
   ]
 
@@ -176,21 +176,21 @@ module _ (l : Lent) (w : Window) where
   notes [] n s seen u b e = subst (λ (f : Height). Notes (s .next) (s .left) f Unknown) (sym u) alike
   notes (h ∷ hs) n s seen u b e = elim (both (eqb (s .left) 0)) [
     | inl z ↦ notes-by (scan-full es (l .staged) (l .refused) (heights-from n (h ∷ hs)) s (eqb-true (s .left) 0 z)) refl
-      (subst (λ (f : Height). Notes (s .next) (s .left) f (lowest-in seen n (h ∷ hs) Unknown)) (sym u)
-      (notes-full (s .next) (s .left) n (lowest-in seen n (h ∷ hs) Unknown) (eqb-true (s .left) 0 z) b (above (h ∷ hs) n seen)))
+        (subst (λ (f : Height). Notes (s .next) (s .left) f (lowest-in seen n (h ∷ hs) Unknown)) (sym u)
+        (notes-full (s .next) (s .left) n (lowest-in seen n (h ∷ hs) Unknown) (eqb-true (s .left) 0 z) b (above (h ∷ hs) n seen)))
     | inr z ↦ elim (both (passes es (l .staged) (plan-hashes (s .asks)) (ask h n))) [
       | inl p ↦ notes-by (scan-by es (l .staged) (l .refused) (heights-from (suc n) hs) (ask h n) s PassBy (look-is l w (ask h n) s false true (names (l .refused) h) z p refl)) (low-skip seen n h hs Unknown (same-pass seen (s .asks) (ask h n) e ∙ p))
-        (notes hs (suc n) s seen u (omega arith) e)
+          (notes hs (suc n) s seen u (omega arith) e)
       | inr p ↦ elim (both (names (l .refused) h)) [
         | inl r ↦
-          let s′ = looked NoteRefused (ask h n) s in
-          notes-by (scan-by es (l .staged) (l .refused) (heights-from (suc n) hs) (ask h n) s NoteRefused (look-is l w (ask h n) s false false true z p r))
-          (low-refused seen n h hs Unknown (same-pass seen (s .asks) (ask h n) e ∙ p) r ∙ settled hs (suc n) n (h ∷ seen) (omega arith))
-          (subst (λ (f : Height). Notes (scans (heights-from (suc n) hs) s′ .next) (scans (heights-from (suc n) hs) s′ .left) f (Known n))
-          (sym (scan-keeps es (l .staged) (l .refused) (heights-from (suc n) hs) s′ n (ap (λ (f : Height). first-of f n) u))) alike)
+            let s′ = looked NoteRefused (ask h n) s in
+            notes-by (scan-by es (l .staged) (l .refused) (heights-from (suc n) hs) (ask h n) s NoteRefused (look-is l w (ask h n) s false false true z p r))
+            (low-refused seen n h hs Unknown (same-pass seen (s .asks) (ask h n) e ∙ p) r ∙ settled hs (suc n) n (h ∷ seen) (omega arith))
+            (subst (λ (f : Height). Notes (scans (heights-from (suc n) hs) s′ .next) (scans (heights-from (suc n) hs) s′ .left) f (Known n))
+            (sym (scan-keeps es (l .staged) (l .refused) (heights-from (suc n) hs) s′ n (ap (λ (f : Height). first-of f n) u))) alike)
         | inr r ↦ notes-by (scan-by es (l .staged) (l .refused) (heights-from (suc n) hs) (ask h n) s Take (look-is l w (ask h n) s false false false z p r))
-          (low-not seen n h hs Unknown (same-pass seen (s .asks) (ask h n) e ∙ p) r)
-          (notes hs (suc n) (looked Take (ask h n) s) (h ∷ seen) u (greater-le (s .next) (next-height n) (suc n) (omega arith) (next-le n)) (known-more seen (s .asks) (ask h n) e))
+            (low-not seen n h hs Unknown (same-pass seen (s .asks) (ask h n) e ∙ p) r)
+            (notes hs (suc n) (looked Take (ask h n) s) (h ∷ seen) u (greater-le (s .next) (next-height n) (suc n) (omega arith) (next-le n)) (known-more seen (s .asks) (ask h n) e))
       ]
     ]
   ]

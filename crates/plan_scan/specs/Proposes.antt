@@ -111,7 +111,6 @@ module _ (chain staged refused : List ℕ) (w : Window) (hs ts hs′ ts′ : Lis
     (pending-is : pending ≡ length (w .queue .pending)) (held-is : held ≡ length staged / 4)
     (last-is : last ≡ lesser (s .height + (s .limit + (pending + (held + count)) - 1)) (s .tip)) (full-by : full ≡ count + s .limit)
     (scans : Scans (w .queue .pending) chain staged refused hs ts (s .height) last count full (s .next) hs′ ts′ x) where
-
   module _ (l : Lent) (t : Step) (d : Draft) (hs₀ ts₀ : List ℕ) (g : Given chain staged refused w hs ts count low l t d hs₀ ts₀) where
     abbrev end : Scanned
     end = scan-end l t (scan-says s) d

@@ -176,7 +176,7 @@ module _ (l : Lent) where
   noted-any [] = refl
   noted-any (a ∷ asks) = elim (both (is-refused l a)) [
     | inl r ↦ ap is-unknown (noticed-refused l a asks Unknown r ∙ noticed-from l asks (Known (a .height))) ∙ known-lower (a .height) (noticed l asks Unknown)
-      ∙ sym (ap (λ (b : Bool). not (b || any (is-refused l) asks)) r)
+        ∙ sym (ap (λ (b : Bool). not (b || any (is-refused l) asks)) r)
     | inr r ↦ ap is-unknown (noticed-not l a asks Unknown r) ∙ noted-any asks ∙ sym (ap (λ (b : Bool). not (b || any (is-refused l) asks)) r)
   ]
 

@@ -89,9 +89,9 @@ module _ (es : List Entry) (chain staged refused hs₁ ts₁ ix₁ : List ℕ) (
       heights = refl;
       index = refl;
       drawn = λ asks hs₀ ts₀ e p q.
-        let z : from - from ≡ 0 = omega arith in
-        subst (λ (n : ℕ). Drawn (scan-over es staged refused (take n (contiguous-request-entries from last chain)) (scanned asks Unknown frontier (full - count))) hs₀ ts₀ full count 0 frontier hs₁ ts₁) (sym z)
-        (record { count = e; room = omega (arith, s .more); first = refl; next = refl; hashes = p; heights = q });
+          let z : from - from ≡ 0 = omega arith in
+          subst (λ (n : ℕ). Drawn (scan-over es staged refused (take n (contiguous-request-entries from last chain)) (scanned asks Unknown frontier (full - count))) hs₀ ts₀ full count 0 frontier hs₁ ts₁) (sym z)
+          (record { count = e; room = omega (arith, s .more); first = refl; next = refl; hashes = p; heights = q });
     }
 
     module _ (height n first next : ℕ) (hs ts ix : List ℕ) (t : Turning height n first next hs ts ix) where
@@ -109,13 +109,13 @@ module _ (es : List Entry) (chain staged refused hs₁ ts₁ ix₁ : List ℕ) (
         heights = lt ∙ t .heights;
         index = li ∙ t .index;
         drawn = λ asks hs₀ ts₀ c p q.
-          let a = ask h height in
-          let so : state-at asks (height + 1) ≡ looked (look es staged refused a (state-at asks height)) a (state-at asks height) =
-          ap (λ (x : List Ask). scan-over es staged refused x (scanned asks Unknown frontier (full - count))) (entries-more chain from last (s .reaches) height (t .start) b)
-          ∙ scan-append es staged refused (take (height - from) (contiguous-request-entries from last chain)) (ask (hash-in chain (4 * height)) height ∷ []) (scanned asks Unknown frontier (full - count))
-          ∙ ap (λ (g : Hash). looked (look es staged refused (ask g height) (state-at asks height)) (ask g height) (state-at asks height)) (sym e) in
-          subst (λ (x : Scanned). Drawn x hs₀ ts₀ full n′ first′ next′ hs′ ts′) (sym so)
-          (drawn-turn (state-at asks height) hs₀ ts₀ full n first next hs ts (t .drawn asks hs₀ ts₀ c p q) a es staged refused k w n′ first′ next′ hs′ ts′ by en ef ex eh et);
+            let a = ask h height in
+            let so : state-at asks (height + 1) ≡ looked (look es staged refused a (state-at asks height)) a (state-at asks height) =
+            ap (λ (x : List Ask). scan-over es staged refused x (scanned asks Unknown frontier (full - count))) (entries-more chain from last (s .reaches) height (t .start) b)
+            ∙ scan-append es staged refused (take (height - from) (contiguous-request-entries from last chain)) (ask (hash-in chain (4 * height)) height ∷ []) (scanned asks Unknown frontier (full - count))
+            ∙ ap (λ (g : Hash). looked (look es staged refused (ask g height) (state-at asks height)) (ask g height) (state-at asks height)) (sym e) in
+            subst (λ (x : Scanned). Drawn x hs₀ ts₀ full n′ first′ next′ hs′ ts′) (sym so)
+            (drawn-turn (state-at asks height) hs₀ ts₀ full n first next hs ts (t .drawn asks hs₀ ts₀ c p q) a es staged refused k w n′ first′ next′ hs′ ts′ by en ef ex eh et);
       }
         where
           count-le : (k : Look) → count-after k n ≤ n + 1

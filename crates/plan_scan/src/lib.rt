@@ -65,7 +65,13 @@ fn is_open(words: &[u64], staged: &[u64], staged_index: &[u32], h: Hash) -> bool
 }
 
 // Whether the frontier is above `start`, whose hash is open.
-fn is_rewound(words: &[u64], chain: &[u64], staged: &[u64], staged_index: &[u32], start: u64) -> bool
+fn is_rewound(
+    words: &[u64],
+    chain: &[u64],
+    staged: &[u64],
+    staged_index: &[u32],
+    start: u64,
+) -> bool
     requires { ⌜ Whole (now words) × ((rising (window-of (now words) .queue .pending) ≡ true) × Indexed (length (now staged) / 4) (now staged) (now «staged_index»)) ⌝ }
     ensures { λ r. ⌜ r ≡ (ltb start (window-of (now (words .entry)) .frontier) && first-open (window-of (now (words .entry)) .queue .pending) (now (staged .entry)) (drop start (hashes-in (now (chain .entry))))) ⌝ }
 {
@@ -426,7 +432,16 @@ fn request_by_scan(
     );
     let clean = met_none(count, pending, held, r.first);
     let is_full = r.count == full;
-    let next = next_from(clean, is_full, last, scan.tip, low, r.first, scan.next, r.next);
+    let next = next_from(
+        clean,
+        is_full,
+        last,
+        scan.tip,
+        low,
+        r.first,
+        scan.next,
+        r.next,
+    );
     non_empty_request(r.count, next)
 }
 
