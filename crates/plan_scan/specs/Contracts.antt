@@ -20,19 +20,8 @@ use Rattle.listed.specs.Index.{Indexed}
 use Rattle.plan_scan.specs.declared.RequestScan.{RequestScan}
 use Rattle.plan_scan.specs.declared.Scanning.{Scanning}
 use Rattle.plan_scan.specs.declared.Proposed.{Proposed}
-use Rattle.plan_scan.specs.Scan.{scanned, scan-over}
-use Rattle.plan_scan.specs.Plan.{Drawn}
-
--- ---- the frontier
-
--- the first of some hashes is there, and neither pending nor staged
-abbrev pub first-open : List Entry → List ℕ → List Hash → Bool
-first-open es staged [] = false
-first-open es staged (h ∷ hs) = not (is-there (found h es) || names staged h)
-
-abbrev pub Rewinds : List ℕ → List ℕ → ℕ → List ℕ → List ℕ → Type 0
-Rewinds chain staged start ws ws′ =
-    (l : Lent) → l .chain ≡ chain → l .staged ≡ staged → l .start ≡ start → Holds (maybe-rewind-request-frontier l (window-of ws)) ws′
+use Rattle.plan_look.specs.Scan.{scanned, scan-over}
+use Rattle.plan_look.specs.Plan.{Drawn}
 
 -- ---- `scan-of`
 
@@ -52,13 +41,6 @@ unfolding scan-of
 scan-of-is l w batch d = refl
 
 -- ---- the scan
-
--- what is asked whether it names a hash
-pub record Asked (ws staged staged-index refused refused-index : List ℕ) : Type 0 where
-  pub whole : Whole ws
-  pub rises : rising (window-of ws .queue .pending) ≡ true
-  pub stages : Indexed (length staged / 4) staged staged-index
-  pub refuses : Indexed (length refused / 4) refused refused-index
 
 -- the chain reaches to `last`, and the plan's lists have room for `full`
 pub record Scannable (chain hs ts index : List ℕ) (last count full : ℕ) : Type 0 where

@@ -20,9 +20,9 @@ use Rattle.model.specs.Planning.{Lent, names, is-pending, is-staged, is-refused
 use Rattle.model.specs.declared.Hash.{Hash}
 use Rattle.model.specs.declared.Entry.{Entry}
 use Rattle.laws.specs.Numbers.{both}
-use Rattle.plan_scan.specs.declared.Look.{Look}
-use Rattle.plan_scan.specs.declared.Look.the-variants.{PassBy, NoteRefused, Take}
-use Rattle.plan_scan.specs.Scan.{Scanned, plan-hashes, passes, look-of, look, looked, scan-over, scan-by, scan-full}
+use Rattle.plan_look.specs.declared.Look.{Look}
+use Rattle.plan_look.specs.declared.Look.the-variants.{PassBy, NoteRefused, Take}
+use Rattle.plan_look.specs.Scan.{Scanned, plan-hashes, passes, look-of, look, looked, scan-over, scan-by, scan-full}
 
 -- ---- hashes that were seen
 

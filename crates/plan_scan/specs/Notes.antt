@@ -20,9 +20,9 @@ use Rattle.model.specs.declared.Entry.{Entry}
 use Rattle.model.specs.declared.Height.{Height}
 use Rattle.model.specs.declared.Height.the-variants.{Unknown, Known}
 use Rattle.laws.specs.Numbers.{both, lesser-first, lesser-le-first, greater-le}
-use Rattle.plan_scan.specs.declared.Look.{Look}
-use Rattle.plan_scan.specs.declared.Look.the-variants.{PassBy, NoteRefused, Take}
-use Rattle.plan_scan.specs.Scan.{Scanned, plan-hashes, passes, first-of, look, looked, scan-over, scan-by, scan-full}
+use Rattle.plan_look.specs.declared.Look.{Look}
+use Rattle.plan_look.specs.declared.Look.the-variants.{PassBy, NoteRefused, Take}
+use Rattle.plan_look.specs.Scan.{Scanned, plan-hashes, passes, first-of, look, looked, scan-over, scan-by, scan-full}
 use Rattle.plan_scan.specs.Found.{opens, opens-skip, opens-new, look-is, plan-more}
 
 -- ---- numbers, as omega reads them
@@ -194,3 +194,15 @@ module _ (l : Lent) (w : Window) where
       ]
     ]
   ]
+
+-- ---- held back twice: by what was refused before, and by what the scan met
+
+clamped : (x f m : ℕ) → greater (lesser (greater x f) m) f ≡ greater (lesser x m) f
+clamped x f m = simp (lesser-min, greater-max) (omega arith)
+
+pub held-twice : (low met : Height) (frontier next : ℕ) → held-back met frontier (held-back low frontier next) ≡ held-back (lower-by low met) frontier next
+held-twice low Unknown frontier next = refl
+held-twice Unknown (Known m) frontier next = refl
+held-twice (Known n) (Known m) frontier next =
+    let e : lesser (lesser next n) m ≡ lesser next (lesser n m) = simp lesser-min (omega arith) in
+    clamped (lesser next n) frontier m ∙ ap (λ (x : ℕ). greater x frontier) e

@@ -22,12 +22,11 @@ use Rattle.listed.specs.Search.{length-hashes}
 use Rattle.plan_scan.specs.declared.RequestScan.{RequestScan}
 use Rattle.plan_scan.specs.declared.Scanning.{Scanning}
 use Rattle.plan_scan.specs.declared.Proposed.{Proposed}
-use Rattle.plan_scan.specs.Scan.{Scanned, scanned, scan-over}
-use Rattle.plan_scan.specs.Notes.{lower-by}
+use Rattle.plan_look.specs.Scan.{Scanned, scanned, scan-over}
+use Rattle.plan_scan.specs.Notes.{lower-by, held-twice}
 use Rattle.plan_scan.specs.Request.{is-unknown, ended, next-from, met-none, wide, last-height, scan-end, is-met-none, request-scanned, request-over}
-use Rattle.plan_scan.specs.Plan.{height-word, height-of, height-back, Drawn}
+use Rattle.plan_look.specs.Plan.{height-word, height-of, height-back, Drawn}
 use Rattle.plan_scan.specs.Contracts.{Scannable, Scans, scan-says, Plannable, Given, Planned, Proposes}
-use Rattle.plan_scan.specs.Steps.{held-twice}
 
 -- what the code answers, of n asks
 abbrev pub Answers : ℕ → ℕ → Proposed → Type 0

@@ -22,7 +22,7 @@ use Rattle.model.specs.declared.Entry.{Entry}
 use Rattle.model.specs.declared.Height.{Height}
 use Rattle.model.specs.declared.Height.the-variants.{Unknown, Known}
 use Rattle.laws.specs.Numbers.{both}
-use Rattle.plan_scan.specs.Scan.{Scanned, scanned, plan-hashes, scan-over}
+use Rattle.plan_look.specs.Scan.{Scanned, scanned, plan-hashes, scan-over}
 use Rattle.plan_scan.specs.Found.{kept, kept-none, kept-one, opens, wanted, Takes, takes}
 use Rattle.plan_scan.specs.Notes.{lesser-min, greater-max, lower-by, noticed-refused, noticed-not, noticed-from, Notes, alike, beyond, lowest-in, notes}
 

@@ -16,8 +16,8 @@ use Rattle.model.specs.declared.Hash.{Hash}
 use Rattle.model.specs.declared.Entry.{Entry}
 use Rattle.model.specs.declared.Height.{Height}
 use Rattle.model.specs.declared.Height.the-variants.{Unknown, Known}
-use Rattle.plan_scan.specs.declared.Look.{Look}
-use Rattle.plan_scan.specs.declared.Look.the-variants.{PassBy, NoteRefused, Take}
+use Rattle.plan_look.specs.declared.Look.{Look}
+use Rattle.plan_look.specs.declared.Look.the-variants.{PassBy, NoteRefused, Take}
 
 -- what it has come to: the plan, the first refused height that it met, the next height, and how many more are wanted
 pub record Scanned : Type 0 where

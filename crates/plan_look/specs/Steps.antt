@@ -1,4 +1,4 @@
--- What the tests of the code say: of the frontier, and of a height that is looked at. Assumes nothing.
+-- What the code asks, and what its tests say: of the frontier, and of a height that is looked at. Assumes nothing.
 use mathlib.Core.Path.{_≡_, refl, sym, ap, subst, _∙_}
 use mathlib.Core.Bool.{Bool, true, false, cond, not, _&&_, _||_, false≢true, and-false}
 use mathlib.Core.List.{List, [], _∷_}
@@ -8,24 +8,36 @@ use lib.ListN.{length, drop, getD, drop-of-length-le}
 use lib.Seq.{drop-cons}
 use lib.Dec.{eqb, ltb}
 use borrow.Author.Tests.{lt-ltb, le-ltb}
-use Rattle.model.specs.Numbers.{lesser, greater}
 use Rattle.model.specs.Hash.{hash, hashes-in}
 use Rattle.model.specs.Window.{Window, with-frontier}
-use Rattle.model.specs.Layout.{window-of}
+use Rattle.model.specs.Layout.{window-of, rising}
 use Rattle.model.specs.Records.{found, is-there}
-use Rattle.model.specs.Planning.{Lent, names, is-pending, is-staged, is-open, is-first-open, maybe-rewind-request-frontier, lower-of, held-back}
+use Rattle.model.specs.Planning.{Lent, names, is-pending, is-staged, is-open, is-first-open, maybe-rewind-request-frontier}
 use Rattle.model.specs.declared.Hash.{Hash}
 use Rattle.model.specs.declared.Entry.{Entry}
-use Rattle.model.specs.declared.Height.{Height}
-use Rattle.model.specs.declared.Height.the-variants.{Unknown, Known}
-use Rattle.laws.specs.Whole.{Holds}
+use Rattle.laws.specs.Whole.{Whole, Holds}
 use Rattle.requests.specs.Asks.{hash-in}
+use Rattle.listed.specs.Index.{Indexed}
 use Rattle.listed.specs.Search.{length-hashes, hashes-at}
-use Rattle.plan_scan.specs.declared.Look.{Look}
-use Rattle.plan_scan.specs.declared.Look.the-variants.{PassBy, NoteRefused, Take}
-use Rattle.plan_scan.specs.Scan.{look-of}
-use Rattle.plan_scan.specs.Notes.{lesser-min, greater-max, lower-by}
-use Rattle.plan_scan.specs.Contracts.{first-open, Rewinds}
+use Rattle.plan_look.specs.declared.Look.{Look}
+use Rattle.plan_look.specs.declared.Look.the-variants.{PassBy, NoteRefused, Take}
+use Rattle.plan_look.specs.Scan.{look-of}
+
+-- what is asked whether it names a hash
+pub record Asked (ws staged staged-index refused refused-index : List ℕ) : Type 0 where
+  pub whole : Whole ws
+  pub rises : rising (window-of ws .queue .pending) ≡ true
+  pub stages : Indexed (length staged / 4) staged staged-index
+  pub refuses : Indexed (length refused / 4) refused refused-index
+
+-- the first of some hashes is there, and neither pending nor staged
+abbrev pub first-open : List Entry → List ℕ → List Hash → Bool
+first-open es staged [] = false
+first-open es staged (h ∷ hs) = not (is-there (found h es) || names staged h)
+
+abbrev pub Rewinds : List ℕ → List ℕ → ℕ → List ℕ → List ℕ → Type 0
+Rewinds chain staged start ws ws′ =
+    (l : Lent) → l .chain ≡ chain → l .staged ≡ staged → l .start ≡ start → Holds (maybe-rewind-request-frontier l (window-of ws)) ws′
 
 -- ---- the hash at a height of the chain
 
@@ -102,15 +114,3 @@ module _ (x z q o : Bool) (e : o ≡ not x) where
 
       pub look-taken : f ≡ false → Take ≡ look-of (x || z) q
       look-taken t = sym (looks false false k (sym m ∙ t))
-
--- ---- held back twice: by what was refused before, and by what the scan met
-
-clamped : (x f m : ℕ) → greater (lesser (greater x f) m) f ≡ greater (lesser x m) f
-clamped x f m = simp (lesser-min, greater-max) (omega arith)
-
-pub held-twice : (low met : Height) (frontier next : ℕ) → held-back met frontier (held-back low frontier next) ≡ held-back (lower-by low met) frontier next
-held-twice low Unknown frontier next = refl
-held-twice Unknown (Known m) frontier next = refl
-held-twice (Known n) (Known m) frontier next =
-    let e : lesser (lesser next n) m ≡ lesser next (lesser n m) = simp lesser-min (omega arith) in
-    clamped (lesser next n) frontier m ∙ ap (λ (x : ℕ). greater x frontier) e
