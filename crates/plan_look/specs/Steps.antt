@@ -1,5 +1,6 @@
 -- What the code asks, and what its tests say: of the frontier, and of a height that is looked at. Assumes nothing.
 use mathlib.Core.Path.{_≡_, refl, sym, ap, subst, _∙_}
+use mathlib.Core.Logic.{inl, inr}
 use mathlib.Core.Bool.{Bool, true, false, cond, not, _&&_, _||_, false≢true, and-false}
 use mathlib.Core.List.{List, [], _∷_}
 use Prim.Native.Nat.{ℕ, zero, suc, _+_, _*_, _-_, _/_, _≤_, _<_}
@@ -7,7 +8,7 @@ use native.Mathlib.Omega.{arith}
 use lib.ListN.{length, drop, getD, drop-of-length-le}
 use lib.Seq.{drop-cons}
 use lib.Dec.{eqb, ltb}
-use borrow.Author.Tests.{lt-ltb, le-ltb}
+use borrow.Author.Tests.{lt-ltb, le-ltb, ltb-true}
 use Rattle.model.specs.Hash.{hash, hashes-in}
 use Rattle.model.specs.Window.{Window, with-frontier}
 use Rattle.model.specs.Layout.{window-of, rising}
@@ -15,6 +16,9 @@ use Rattle.model.specs.Records.{found, is-there}
 use Rattle.model.specs.Planning.{Lent, names, is-pending, is-staged, is-open, is-first-open, maybe-rewind-request-frontier}
 use Rattle.model.specs.declared.Hash.{Hash}
 use Rattle.model.specs.declared.Entry.{Entry}
+use Rattle.laws.specs.Numbers.{both, and-left}
+use Rattle.laws.specs.Sound.{Sound}
+use Rattle.laws.specs.Parts.{sound-frontier}
 use Rattle.laws.specs.Whole.{Whole, Holds}
 use Rattle.requests.specs.Asks.{hash-in}
 use Rattle.listed.specs.Index.{Indexed}
@@ -83,6 +87,21 @@ rewinds chain staged start ws ws′ b e h = λ l p q r.
     ap (λ (x : Bool). ltb (l .start) (w .frontier) && x) (first-is l w (drop (l .start) (hashes-in (l .chain))))
     ∙ (λ i. ltb (r i) (w .frontier) && first-open (w .queue .pending) (q i) (drop (r i) (hashes-in (p i)))) ∙ sym e in
     subst (λ (v : Window). Holds v ws′) (sym (λ i. cond (back i) (with-frontier (r i) w) w)) h
+
+-- the frontier alone changes, and falls
+
+pub rewound-queue : (l : Lent) (w : Window) → maybe-rewind-request-frontier l w .queue ≡ w .queue
+unfolding maybe-rewind-request-frontier
+rewound-queue l w = elim (both (ltb (l .start) (w .frontier) && is-first-open l w (drop (l .start) (hashes-in (l .chain))))) [ inl q ↦ rw q refl | inr q ↦ rw q refl ]
+
+pub rewound-sound : {c : ℕ} {w : Window} (l : Lent) → Sound c w → Sound c (maybe-rewind-request-frontier l w)
+unfolding maybe-rewind-request-frontier
+rewound-sound {c} {w} l g =
+    let first = is-first-open l w (drop (l .start) (hashes-in (l .chain))) in
+    elim (both (ltb (l .start) (w .frontier) && first)) [
+      | inl q ↦ rw q (sound-frontier g (l .start) (omega (arith, g .frontier, ltb-true (l .start) (w .frontier) (and-left (ltb (l .start) (w .frontier)) first q))))
+      | inr q ↦ rw q g
+    ]
 
 -- ---- a look, by its tests: o says that the hash is open, p that it is in the plan, f that it is refused
 
