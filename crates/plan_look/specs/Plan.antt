@@ -1,6 +1,6 @@
 -- The plan in its two lent lists, and one turn of the scan on them. Assumes nothing.
 use mathlib.Core.Path.{_≡_, refl, sym, ap, subst, _∙_}
-use mathlib.Core.Bool.{Bool, true, false, cond, _||_}
+use mathlib.Core.Bool.{Bool, cond, _||_}
 use mathlib.Core.List.{List, [], _∷_, _++_, append-assoc}
 use Prim.Native.Nat.{ℕ, zero, suc, _+_, _*_, _-_, _≤_, _<_}
 use native.Mathlib.Omega.{arith}
@@ -9,11 +9,9 @@ use lib.Seq.{take-at, drop-append-add, drop-drop, set-split, length-take-le}
 use lib.Dec.{eqb, eqb·suc-zero}
 use borrow.Author.Tests.{eq-eqb, ne-eqb}
 use Rattle.model.specs.Numbers.{greater, next-height}
-use Rattle.model.specs.Lists.{any}
-use Rattle.model.specs.Hash.{same, hash-words, hashes-in}
-use Rattle.model.specs.Records.{found, is-there}
+use Rattle.model.specs.Hash.{hash-words, hashes-in}
 use Rattle.model.specs.Calls.{Ask}
-use Rattle.model.specs.Planning.{ask, names, ask-hashes, ask-heights, written}
+use Rattle.model.specs.Planning.{names, ask-hashes, ask-heights, written}
 use Rattle.model.specs.declared.Hash.{Hash}
 use Rattle.model.specs.declared.Entry.{Entry}
 use Rattle.model.specs.declared.Height.{Height}

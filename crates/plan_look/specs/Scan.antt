@@ -1,6 +1,6 @@
 -- The scan as the code makes it: it looks at one height after the other, takes what is open, and stops when it has all that is wanted.
 -- Definitions, and the laws of a turn. Assumes nothing.
-use mathlib.Core.Path.{_≡_, refl, sym, ap, _∙_}
+use mathlib.Core.Path.{_≡_, refl, ap, _∙_}
 use mathlib.Core.Bool.{Bool, true, false, _||_}
 use mathlib.Core.List.{List, [], _∷_, _++_, map}
 use Prim.Native.Nat.{ℕ, _-_}

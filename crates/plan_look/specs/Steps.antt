@@ -1,13 +1,13 @@
 -- What the code asks, and what its tests say: of the frontier, and of a height that is looked at. Assumes nothing.
 use mathlib.Core.Path.{_≡_, refl, sym, ap, subst, _∙_}
 use mathlib.Core.Logic.{inl, inr}
-use mathlib.Core.Bool.{Bool, true, false, cond, not, _&&_, _||_, false≢true, and-false}
+use mathlib.Core.Bool.{Bool, true, false, cond, not, _&&_, _||_, and-false}
 use mathlib.Core.List.{List, [], _∷_}
-use Prim.Native.Nat.{ℕ, zero, suc, _+_, _*_, _-_, _/_, _≤_, _<_}
+use Prim.Native.Nat.{ℕ, suc, _*_, _/_, _≤_, _<_}
 use native.Mathlib.Omega.{arith}
-use lib.ListN.{length, drop, getD, drop-of-length-le}
+use lib.ListN.{length, drop, drop-of-length-le}
 use lib.Seq.{drop-cons}
-use lib.Dec.{eqb, ltb}
+use lib.Dec.{ltb}
 use borrow.Author.Tests.{lt-ltb, le-ltb, ltb-true}
 use Rattle.model.specs.Hash.{hash, hashes-in}
 use Rattle.model.specs.Window.{Window, with-frontier}
@@ -23,7 +23,6 @@ use Rattle.laws.specs.Whole.{Whole, Holds}
 use Rattle.requests.specs.Asks.{hash-in}
 use Rattle.listed.specs.Index.{Indexed}
 use Rattle.listed.specs.Search.{length-hashes, hashes-at}
-use Rattle.plan_look.specs.declared.Look.{Look}
 use Rattle.plan_look.specs.declared.Look.the-variants.{PassBy, NoteRefused, Take}
 use Rattle.plan_look.specs.Scan.{look-of}
 

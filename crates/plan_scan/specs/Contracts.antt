@@ -1,21 +1,16 @@
 -- What the code asks, and what it gives. Assumes nothing.
-use mathlib.Core.Path.{_≡_, refl, sym, ap, _∙_}
-use mathlib.Core.Bool.{Bool, true, false, not, _||_}
-use mathlib.Core.List.{List, [], _∷_}
+use mathlib.Core.Path.{_≡_, refl}
+use mathlib.Core.List.{List}
 use Prim.Native.Nat.{ℕ, suc, _+_, _*_, _-_, _/_, _≤_}
-use lib.ListN.{length, take, drop}
+use lib.ListN.{length}
 use Rattle.model.specs.Numbers.{lesser, greater, max-height}
-use Rattle.model.specs.Hash.{hashes-in}
 use Rattle.model.specs.Window.{Window, Step}
-use Rattle.model.specs.Layout.{window-of, rising}
-use Rattle.model.specs.Records.{found, is-there}
+use Rattle.model.specs.Layout.{window-of}
 use Rattle.model.specs.Calls.{Ask}
-use Rattle.model.specs.Planning.{Lent, Scan, Draft, Proposal, names, maybe-rewind-request-frontier, contiguous-request-entries, reach, request-from, scan-of, ask-hashes, ask-heights, written}
-use Rattle.model.specs.declared.Hash.{Hash}
+use Rattle.model.specs.Planning.{Lent, Scan, Draft, Proposal, contiguous-request-entries, request-from, scan-of, ask-hashes, ask-heights, written}
 use Rattle.model.specs.declared.Entry.{Entry}
 use Rattle.model.specs.declared.Height.{Height}
 use Rattle.model.specs.declared.Height.the-variants.{Unknown}
-use Rattle.laws.specs.Whole.{Whole, Holds}
 use Rattle.listed.specs.Index.{Indexed}
 use Rattle.plan_scan.specs.declared.RequestScan.{RequestScan}
 use Rattle.plan_scan.specs.declared.Scanning.{Scanning}

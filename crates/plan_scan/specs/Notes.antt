@@ -4,7 +4,7 @@ use mathlib.Core.Path.{_≡_, refl, sym, ap, subst, _∙_}
 use mathlib.Core.Logic.{inl, inr}
 use mathlib.Core.Bool.{Bool, true, false, cond, _||_}
 use mathlib.Core.List.{List, [], _∷_, _++_}
-use Prim.Native.Nat.{ℕ, zero, suc, _≤_, min, max}
+use Prim.Native.Nat.{ℕ, suc, _≤_, min, max}
 use native.Mathlib.Omega.{arith}
 use lib.Dec.{eqb, leb}
 use borrow.Author.Tests.{eqb-true, leb-true, leb-false}
@@ -14,7 +14,7 @@ use Rattle.model.specs.Hash.{same}
 use Rattle.model.specs.Window.{Window}
 use Rattle.model.specs.Records.{found, is-there}
 use Rattle.model.specs.Calls.{Ask}
-use Rattle.model.specs.Planning.{Lent, ask, names, is-refused, is-open, first-named, heights-from, lower-of, noticed, held-back}
+use Rattle.model.specs.Planning.{Lent, ask, names, is-refused, first-named, heights-from, lower-of, noticed, held-back}
 use Rattle.model.specs.declared.Hash.{Hash}
 use Rattle.model.specs.declared.Entry.{Entry}
 use Rattle.model.specs.declared.Height.{Height}

@@ -3,7 +3,7 @@ use mathlib.Core.Path.{_≡_, refl, sym, ap, subst, _∙_}
 use mathlib.Core.Logic.{inl, inr}
 use mathlib.Core.Bool.{Bool, true, false, cond, not, _&&_}
 use mathlib.Core.List.{List, [], _∷_}
-use Prim.Native.Nat.{ℕ, zero, suc, _+_, _*_, _-_, _/_, _≤_, _<_}
+use Prim.Native.Nat.{ℕ, suc, _+_, _*_, _-_, _/_, _≤_, _<_}
 use native.Mathlib.Omega.{arith}
 use lib.ListN.{length}
 use lib.Dec.{eqb, ltb, leb, eqb·suc-zero}
@@ -14,7 +14,6 @@ use Rattle.model.specs.Window.{Window, Step}
 use Rattle.model.specs.Layout.{window-of}
 use Rattle.model.specs.Calls.{Ask}
 use Rattle.model.specs.Planning.{Lent, Scan, Draft, Proposal, held-back, non-empty-request, contiguous-request-entries, reach, request-from, ask-hashes, ask-heights, written}
-use Rattle.model.specs.declared.Entry.{Entry}
 use Rattle.model.specs.declared.Height.{Height}
 use Rattle.model.specs.declared.Height.the-variants.{Unknown, Known}
 use Rattle.laws.specs.Numbers.{both, and-left, and-right, lesser-le-first, lesser-le-second, second-le-greater}
@@ -24,8 +23,8 @@ use Rattle.plan_scan.specs.declared.RequestScan.{RequestScan}
 use Rattle.plan_scan.specs.declared.Scanning.{Scanning}
 use Rattle.plan_scan.specs.declared.Proposed.{Proposed}
 use Rattle.plan_look.specs.Scan.{Scanned, scanned, scan-over}
-use Rattle.plan_scan.specs.Notes.{greater-max, lower-by, held-twice}
-use Rattle.plan_scan.specs.Request.{is-unknown, ended, next-from, met-none, wide, last-height, scan-end, is-met-none, request-scanned, request-over}
+use Rattle.plan_scan.specs.Notes.{greater-max, held-twice}
+use Rattle.plan_scan.specs.Request.{is-unknown, ended, next-from, met-none, last-height, scan-end, is-met-none, request-scanned, request-over}
 use Rattle.plan_look.specs.Plan.{height-word, height-of, height-back, Drawn}
 use Rattle.plan_scan.specs.Contracts.{Scannable, Scans, scan-says, scan-at, Plannable, Given, Planned, Proposes}
 

@@ -1,26 +1,21 @@
 -- The scan's loop: what holds at its head, its turn and its two ends. Assumes nothing.
 use mathlib.Core.Path.{_≡_, refl, sym, ap, subst, _∙_}
-use mathlib.Core.Bool.{Bool, _||_}
 use mathlib.Core.List.{List, [], _∷_, _++_}
-use Prim.Native.Nat.{ℕ, zero, suc, _+_, _*_, _-_, _/_, _≤_, _<_}
+use Prim.Native.Nat.{ℕ, zero, suc, _+_, _*_, _-_, _≤_, _<_}
 use native.Mathlib.Nat.{not-suc-le-zero, le-of-suc-le-suc}
 use native.Mathlib.Omega.{arith}
 use lib.ListN.{length, take, drop, getD, length-take, length-drop, take-append-drop}
 use lib.Seq.{take-suc, take-all, getD-take, getD-drop}
-use Rattle.model.specs.Lists.{any}
-use Rattle.model.specs.Hash.{hash, same, hash-words, hashes-in}
-use Rattle.model.specs.Records.{found, is-there}
+use Rattle.model.specs.Hash.{hash, hash-words, hashes-in}
 use Rattle.model.specs.Calls.{Ask}
 use Rattle.model.specs.Planning.{ask, names, heights-from, contiguous-request-entries, ask-hashes, ask-heights, written}
 use Rattle.model.specs.declared.Hash.{Hash}
 use Rattle.model.specs.declared.Entry.{Entry}
-use Rattle.model.specs.declared.Height.{Height}
 use Rattle.model.specs.declared.Height.the-variants.{Unknown}
 use Rattle.requests.specs.Asks.{hash-in}
 use Rattle.listed.specs.Index.{Indexed}
 use Rattle.listed.specs.Search.{length-hashes, hashes-at}
 use Rattle.plan_look.specs.declared.Look.{Look}
-use Rattle.plan_scan.specs.declared.Scanning.{Scanning}
 use Rattle.plan_look.specs.Scan.{Scanned, scanned, passes, look-of, look, looked, scan-over, scan-append, scan-full}
 use Rattle.plan_scan.specs.Request.{heights-length}
 use Rattle.plan_look.specs.Plan.{count-after, first-after, next-past, words-after, Drawn, drawn-turn}

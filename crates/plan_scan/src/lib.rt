@@ -7,6 +7,7 @@ ghost use Prim.Native.Nat.{_+_, _-_, _<_, _≤_};
 ghost use lib.ListN.{length};
 ghost use lib.Dec.{eqb, ltb, leb};
 ghost use Rattle.model.specs.Numbers.{lesser, greater, next-height, max-height};
+ghost use Rattle.model.specs.Hash.{base};
 ghost use Rattle.model.specs.Planning.{held-back};
 ghost use Rattle.model.specs.Layout.{window-of};
 ghost use Rattle.plan_look.specs.Plan.{height-of};
@@ -128,7 +129,7 @@ fn scan_chain(
 
 // `reach` of a scan for `limit`, over what is pending, staged and taken
 fn reach(height: u64, tip: u64, limit: u64, pending: usize, staged: usize, taken: usize) -> u64
-    requires { ⌜ (height ≤ max-height) × ((0 < limit) × ((taken + limit ≤ 256) × ((pending ≤ 256) × (staged ≤ 4611686018427387904)))) ⌝ }
+    requires { ⌜ (0 < limit) × (height + (limit + (pending + (staged + taken))) < base) ⌝ }
     ensures { λ r. ⌜ r ≡ lesser (height + (limit + (pending + (staged + taken)) - 1)) tip ⌝ }
 {
     let span = limit + (pending + (staged + taken)) as u64;

@@ -1,6 +1,5 @@
 -- `plan_look::take_at` meets its contract. Assumes nothing.
 use mathlib.Core.Path.{refl, sym, subst}
-use Prim.Native.Nat.{_*_}
 use native.Mathlib.Omega.{arith}
 use Rattle.model.specs.Hash.{hash-words}
 use Rattle.plan_look.specs.declared.Look.{Look}

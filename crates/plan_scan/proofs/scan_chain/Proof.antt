@@ -1,5 +1,4 @@
 -- `plan_scan::scan_chain` meets its contract: at the loop's head the heights below are looked at. Assumes nothing.
-use mathlib.Core.Path.{ap}
 use Prim.Native.Nat.{_+_, _-_}
 use native.Mathlib.Omega.{arith}
 use Rattle.model.specs.Layout.{window-of}
