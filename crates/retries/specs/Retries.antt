@@ -252,7 +252,7 @@ module _ (l : Lent) (w : Window) (asks : List Ask) (batch bytes : ℕ) (hs₀ ts
           long-heights = g .long-heights;
           long-index = g .long-index;
           is = g .is ∙ ap (and-asks (g .taken)) (by-next ∙ notes l w a rest (batch - n) left (height-of lowest) (of-window ∙ q) r
-          ∙ ap (expired-request-entries l w rest (batch - n) left) (sym e));
+              ∙ ap (expired-request-entries l w rest (batch - n) left) (sym e));
         })
 
         module _ (r : is-refused l a ≡ false) where
@@ -288,8 +288,8 @@ module _ (l : Lent) (w : Window) (asks : List Ask) (batch bytes : ℕ) (hs₀ ts
                 long-heights = lt ∙ g .long-heights;
                 long-index = lx ∙ g .long-index;
                 is = g .is ∙ ap (and-asks (g .taken)) (by-next ∙ takes l w a rest (batch - n) left (height-of lowest) (of-window ∙ q) r p)
-                ∙ and-more (g .taken) a (expired-request-entries l w rest (batch - n - 1) (left - w .mean) (height-of lowest))
-                ∙ (λ j. and-asks (g .taken ++ (a ∷ [])) (expired-request-entries l w rest (room j) (left - sym same j) (height-of lowest)));
+                    ∙ and-more (g .taken) a (expired-request-entries l w rest (batch - n - 1) (left - w .mean) (height-of lowest))
+                    ∙ (λ j. and-asks (g .taken ++ (a ∷ [])) (expired-request-entries l w rest (room j) (left - sym same j) (height-of lowest)));
               })
 
 -- ---- the swept, in the order of their keys

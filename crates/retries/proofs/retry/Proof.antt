@@ -55,11 +55,10 @@ module _ (c : tie.At-loop Inv-loop μ-loop) (below : c .loop .i < start c .args 
 loop-holds : tie.Need-loop-holds Inv-loop μ-loop
 loop-holds c =
     let s = c .before .before .before .before .before .before .before .before .before .before in
-    let a = s .args in
-    (
+    let a = s .args in (
       omega arith,
       going-start (lent-for (a .staged .now) (a .refused .now) (a .floor)) (window-of (a .words .now)) (swept-asks (releases-of (a .n) (a .gone .now))) (a .batch) (a .bytes)
-      (a .hashes .now) (a .heights .now) (a .index .now) (s .pre .0 .index),
+          (a .hashes .now) (a .heights .now) (a .index .now) (s .pre .0 .index),
     )
 
 is-full-requires : tie.Need-is-full-requires Inv-loop μ-loop
@@ -115,10 +114,12 @@ loop-again c =
     let l = d .loop in
     let h = c .before .before .before .before .hash-at in
     let t = c .before .before .before .height-at in
-    let below : l .i < a .n = c .before .before .before .before .before .before .before .loop-test .taken in
-    (omega arith, going-refused (lent-for (a .staged .now) (a .refused .now) (a .floor)) (window-of (a .words .now)) (asks d) (a .batch) (a .bytes) (a .hashes .now) (a .heights .now) (a .index .now)
-    (l .hashes) (l .heights) (l .index) (l .count) (l .left) (l .low) (l .i) (l .inv .1) (a .mean) (start d .pre .1 .1 .1) (ask (h .result) (t .result)) (is d below (h .result) (t .result) (h .ensures) (t .ensures))
-    (sym (c .before .before .before .before .before .before .is-full .ensures) ∙ c .before .before .before .before .before .if1 .left) (c .lower-of .result) (sym (c .before .before .names .ensures) ∙ c .before .if2 .taken) (c .lower-of .ensures))
+    let below : l .i < a .n = c .before .before .before .before .before .before .before .loop-test .taken in (
+      omega arith,
+      going-refused (lent-for (a .staged .now) (a .refused .now) (a .floor)) (window-of (a .words .now)) (asks d) (a .batch) (a .bytes) (a .hashes .now) (a .heights .now) (a .index .now)
+          (l .hashes) (l .heights) (l .index) (l .count) (l .left) (l .low) (l .i) (l .inv .1) (a .mean) (start d .pre .1 .1 .1) (ask (h .result) (t .result)) (is d below (h .result) (t .result) (h .ensures) (t .ensures))
+          (sym (c .before .before .before .before .before .before .is-full .ensures) ∙ c .before .before .before .before .before .if1 .left) (c .lower-of .result) (sym (c .before .before .names .ensures) ∙ c .before .if2 .taken) (c .lower-of .ensures),
+    )
 
 is-passed-by-requires : tie.Need-is-passed-by-requires Inv-loop μ-loop
 is-passed-by-requires c κs = let p = start (c .before .before .before .before .before .before .before) .pre .0 in ((p .whole, p .rises), p .staged-index)
@@ -137,10 +138,12 @@ loop-again-2 c =
     let l = d .loop in
     let h = c .before .before .before .before .before .hash-at in
     let t = c .before .before .before .before .height-at in
-    let below : l .i < a .n = c .before .before .before .before .before .before .before .before .loop-test .taken in
-    (omega arith, going-passed (lent-for (a .staged .now) (a .refused .now) (a .floor)) (window-of (a .words .now)) (asks d) (a .batch) (a .bytes) (a .hashes .now) (a .heights .now) (a .index .now)
-    (l .hashes) (l .heights) (l .index) (l .count) (l .left) (l .low) (l .i) (l .inv .1) (a .mean) (start d .pre .1 .1 .1) (ask (h .result) (t .result)) (is d below (h .result) (t .result) (h .ensures) (t .ensures))
-    (sym (c .before .before .before .before .before .before .before .is-full .ensures) ∙ c .before .before .before .before .before .before .if1 .left) (sym (c .before .before .before .names .ensures) ∙ c .before .before .if2 .left) (sym (c .before .is-passed-by .ensures) ∙ c .if3 .taken))
+    let below : l .i < a .n = c .before .before .before .before .before .before .before .before .loop-test .taken in (
+      omega arith,
+      going-passed (lent-for (a .staged .now) (a .refused .now) (a .floor)) (window-of (a .words .now)) (asks d) (a .batch) (a .bytes) (a .hashes .now) (a .heights .now) (a .index .now)
+          (l .hashes) (l .heights) (l .index) (l .count) (l .left) (l .low) (l .i) (l .inv .1) (a .mean) (start d .pre .1 .1 .1) (ask (h .result) (t .result)) (is d below (h .result) (t .result) (h .ensures) (t .ensures))
+          (sym (c .before .before .before .before .before .before .before .is-full .ensures) ∙ c .before .before .before .before .before .before .if1 .left) (sym (c .before .before .before .names .ensures) ∙ c .before .before .if2 .left) (sym (c .before .is-passed-by .ensures) ∙ c .if3 .taken),
+    )
 
 put-ask-requires : tie.Need-put-ask-requires Inv-loop μ-loop
 put-ask-requires c κs =
@@ -150,8 +153,7 @@ put-ask-requires c κs =
     let h = c .before .before .before .before .before .before .before .before .hash-at in
     let t = c .before .before .before .before .before .before .before .height-at in
     let p = start d .pre .0 in
-    let more : l .count < a .batch = room-left (a .batch) (l .count) (l .left) (a .mean) (sym (c .before .before .before .before .before .before .before .before .before .before .is-full .ensures) ∙ c .before .before .before .before .before .before .before .before .before .if1 .left) .0 in
-    (
+    let more : l .count < a .batch = room-left (a .batch) (l .count) (l .left) (a .mean) (sym (c .before .before .before .before .before .before .before .before .before .before .is-full .ensures) ∙ c .before .before .before .before .before .before .before .before .before .if1 .left) .0 in (
       l .inv .1 .index,
       (
         omega (arith, more, p .hashes, l .inv .1 .long-hashes),
@@ -186,11 +188,13 @@ loop-again-3 c =
     let h = c .before .before .before .before .before .before .before .before .before .before .before .before .before .before .before .hash-at in
     let t = c .before .before .before .before .before .before .before .before .before .before .before .before .before .before .height-at in
     let put = c .before .before .before .before .before .before .put-ask in
-    let below : l .i < a .n = c .before .before .before .before .before .before .before .before .before .before .before .before .before .before .before .before .before .before .loop-test .taken in
-    (omega arith, going-taken (lent-for (a .staged .now) (a .refused .now) (a .floor)) (window-of (a .words .now)) (asks d) (a .batch) (a .bytes) (a .hashes .now) (a .heights .now) (a .index .now)
-    (l .hashes) (l .heights) (l .index) (l .count) (l .left) (l .low) (l .i) (l .inv .1) (a .mean) (start d .pre .1 .1 .1) (ask (h .result) (t .result)) (is d below (h .result) (t .result) (h .ensures) (t .ensures))
-    (sym (c .before .before .before .before .before .before .before .before .before .before .before .before .before .before .before .before .before .is-full .ensures) ∙ c .before .before .before .before .before .before .before .before .before .before .before .before .before .before .before .before .if1 .left) (sym (c .before .before .before .before .before .before .before .before .before .before .before .before .before .names .ensures) ∙ c .before .before .before .before .before .before .before .before .before .before .before .before .if2 .left) (put .last .0) (put .last .1 .0) (put .last .1 .1 .0)
-    (sym (c .before .before .before .before .before .before .before .before .before .before .before .is-passed-by .ensures) ∙ c .before .before .before .before .before .before .before .before .before .before .if3 .left) (put .ensures .0) (put .ensures .1 .0) (put .ensures .1 .1) (put .kept .0) (put .kept .1 .0) (put .kept .1 .1 .0))
+    let below : l .i < a .n = c .before .before .before .before .before .before .before .before .before .before .before .before .before .before .before .before .before .before .loop-test .taken in (
+      omega arith,
+      going-taken (lent-for (a .staged .now) (a .refused .now) (a .floor)) (window-of (a .words .now)) (asks d) (a .batch) (a .bytes) (a .hashes .now) (a .heights .now) (a .index .now)
+          (l .hashes) (l .heights) (l .index) (l .count) (l .left) (l .low) (l .i) (l .inv .1) (a .mean) (start d .pre .1 .1 .1) (ask (h .result) (t .result)) (is d below (h .result) (t .result) (h .ensures) (t .ensures))
+          (sym (c .before .before .before .before .before .before .before .before .before .before .before .before .before .before .before .before .before .is-full .ensures) ∙ c .before .before .before .before .before .before .before .before .before .before .before .before .before .before .before .before .if1 .left) (sym (c .before .before .before .before .before .before .before .before .before .before .before .before .before .names .ensures) ∙ c .before .before .before .before .before .before .before .before .before .before .before .before .if2 .left) (put .last .0) (put .last .1 .0) (put .last .1 .1 .0)
+          (sym (c .before .before .before .before .before .before .before .before .before .before .before .is-passed-by .ensures) ∙ c .before .before .before .before .before .before .before .before .before .before .if3 .left) (put .ensures .0) (put .ensures .1 .0) (put .ensures .1 .1) (put .kept .0) (put .kept .1 .0) (put .kept .1 .1 .0),
+    )
 
 same-length-4 : tie.Need-same-length-4 Inv-loop μ-loop
 same-length-4 c = c .before .loop .inv .1 .long-hashes
