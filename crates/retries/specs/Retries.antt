@@ -15,6 +15,7 @@ use Rattle.model.specs.Numbers.{lesser, max-height}
 use Rattle.model.specs.Hash.{hash-words}
 use Rattle.model.specs.Window.{Window}
 use Rattle.model.specs.Layout.{window-of, rising}
+use Rattle.model.specs.Races.{by-height}
 use Rattle.model.specs.Calls.{Ask}
 use Rattle.model.specs.Planning.{Lent, Draft, draft, ask, and-ask, lower-of, names, is-pending, is-staged, is-refused, is-open, expired-request-entries, swept-asks, ask-hashes, ask-heights, written}
 use Rattle.model.specs.declared.Hash.{Hash}
@@ -52,7 +53,7 @@ retries staged refused floor words n gone batch bytes =
     expired-request-entries (lent-for staged refused floor) (window-of words) (swept-asks (releases-of n gone)) batch bytes Unknown
 
 -- it is the same for every Lent with these three
-pub entries-alone : (l : Lent) (w : Window) (asks : List Ask) (room bytes : ℕ) (low : Height)
+entries-alone : (l : Lent) (w : Window) (asks : List Ask) (room bytes : ℕ) (low : Height)
     → expired-request-entries l w asks room bytes low ≡ expired-request-entries (lent-for (l .staged) (l .refused) (l .floor)) w asks room bytes low
 unfolding expired-request-entries is-refused is-open is-staged
 entries-alone l w [] room bytes low = refl
@@ -62,6 +63,11 @@ entries-alone l w (a ∷ rest) room bytes low =
     let t = entries-alone l w rest (room - 1) (bytes - w .mean) low in
     λ i. cond (eqb room 0 || ltb bytes (w .mean)) (draft [] bytes low)
     (cond (is-refused l a) (r i) (cond (ltb (a .height) (l .floor) || not (is-open l w a)) (p i) (and-ask a (t i))))
+
+pub retries-are : (l : Lent) (words : List ℕ) (n : ℕ) (gone : List ℕ) (batch bytes : ℕ)
+    → retries (l .staged) (l .refused) (l .floor) words n gone batch bytes ≡ expired-request-entries l (window-of words) (swept-asks (releases-of n gone)) batch bytes Unknown
+unfolding retries
+retries-are l words n gone batch bytes = sym (entries-alone l (window-of words) (swept-asks (releases-of n gone)) batch bytes Unknown)
 
 -- ---- one of the swept, by what is asked of it
 
@@ -313,3 +319,19 @@ module _ (core keys : List ℕ) (n : ℕ) (room : n ≤ length keys) (asks : Lis
     -- which has 32 bits
     pub next-low : Low asks → height ≤ max-height
     next-low l = low-drop asks i (ask h height) (drop (suc i) asks) l next-is
+
+-- ---- none was swept
+
+no-asks : (n : ℕ) (core : List ℕ) → n ≡ 0 → length (swept-asks (releases-of n core)) ≤ 0
+unfolding swept-asks releases-of by-height
+no-asks zero core z = omega arith
+no-asks (suc n) core z = absurd (omega arith)
+
+pub none-swept : (staged refused words gone hs ts ix : List ℕ) (floor n batch bytes : ℕ) → n ≡ 0 → Indexed 0 hs ix
+    → Drafted (retries staged refused floor words n gone batch bytes) batch hs ts hs ts ix 0 bytes 0
+unfolding retries
+none-swept staged refused words gone hs ts ix floor n batch bytes z g =
+    let l = lent-for staged refused floor in
+    let w = window-of words in
+    let asks = swept-asks (releases-of n gone) in
+    going-end l w asks batch bytes hs ts ix hs ts ix 0 bytes 0 0 (going-start l w asks batch bytes hs ts ix g) (no-asks n gone z)
