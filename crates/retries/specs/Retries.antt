@@ -15,8 +15,10 @@ use Rattle.model.specs.Numbers.{lesser, max-height}
 use Rattle.model.specs.Hash.{hash-words}
 use Rattle.model.specs.Window.{Window}
 use Rattle.model.specs.Layout.{window-of, rising}
+use Rattle.model.specs.Races.{by-height}
 use Rattle.model.specs.Calls.{Ask}
-use Rattle.model.specs.Planning.{Lent, Draft, draft, and-ask, lower-of, names, is-pending, is-staged, is-refused, is-open, expired-request-entries, swept-asks, ask-hashes, ask-heights, written}
+use Rattle.model.specs.Planning.{Lent, Draft, draft, ask, and-ask, lower-of, names, is-pending, is-staged, is-refused, is-open, expired-request-entries, swept-asks, ask-hashes, ask-heights, written}
+use Rattle.model.specs.declared.Hash.{Hash}
 use Rattle.model.specs.declared.Height.{Height}
 use Rattle.model.specs.declared.Height.the-variants.{Unknown, Known}
 use Rattle.laws.specs.Numbers.{both, lesser-first, lesser-second}
@@ -51,7 +53,7 @@ retries staged refused floor words n gone batch bytes =
     expired-request-entries (lent-for staged refused floor) (window-of words) (swept-asks (releases-of n gone)) batch bytes Unknown
 
 -- it is the same for every Lent with these three
-pub entries-alone : (l : Lent) (w : Window) (asks : List Ask) (room bytes : ℕ) (low : Height)
+entries-alone : (l : Lent) (w : Window) (asks : List Ask) (room bytes : ℕ) (low : Height)
     → expired-request-entries l w asks room bytes low ≡ expired-request-entries (lent-for (l .staged) (l .refused) (l .floor)) w asks room bytes low
 unfolding expired-request-entries is-refused is-open is-staged
 entries-alone l w [] room bytes low = refl
@@ -61,6 +63,11 @@ entries-alone l w (a ∷ rest) room bytes low =
     let t = entries-alone l w rest (room - 1) (bytes - w .mean) low in
     λ i. cond (eqb room 0 || ltb bytes (w .mean)) (draft [] bytes low)
     (cond (is-refused l a) (r i) (cond (ltb (a .height) (l .floor) || not (is-open l w a)) (p i) (and-ask a (t i))))
+
+pub retries-are : (l : Lent) (words : List ℕ) (n : ℕ) (gone : List ℕ) (batch bytes : ℕ)
+    → retries (l .staged) (l .refused) (l .floor) words n gone batch bytes ≡ expired-request-entries l (window-of words) (swept-asks (releases-of n gone)) batch bytes Unknown
+unfolding retries
+retries-are l words n gone batch bytes = sym (entries-alone l (window-of words) (swept-asks (releases-of n gone)) batch bytes Unknown)
 
 -- ---- one of the swept, by what is asked of it
 
@@ -224,17 +231,20 @@ module _ (l : Lent) (w : Window) (asks : List Ask) (batch bytes : ℕ) (hs₀ ts
         let none : drop i asks ≡ [] = drop-of-length-le asks {i = i} h in
         ends (ap (λ (x : List Ask). expired-request-entries l w x (batch - n) left (height-of lowest)) none)
 
-    module _ (a : Ask) (next : drop i asks ≡ a ∷ drop (suc i) asks) where
+    module _ (mean : ℕ) (same : mean ≡ w .mean) (a : Ask) (next : drop i asks ≡ a ∷ drop (suc i) asks) where
       abbrev rest : List Ask
       rest = drop (suc i) asks
 
       by-next : expired-request-entries l w (drop i asks) (batch - n) left (height-of lowest) ≡ expired-request-entries l w (a ∷ rest) (batch - n) left (height-of lowest)
       by-next = ap (λ (x : List Ask). expired-request-entries l w x (batch - n) left (height-of lowest)) next
 
-      pub going-stop : full (batch - n) left (w .mean) ≡ true → Drafted (expired-request-entries l w asks batch bytes Unknown) batch hs₀ ts₀ hs ts ix n left lowest
-      going-stop q = ends (by-next ∙ stops l w a rest (batch - n) left (height-of lowest) q)
+      of-window : full (batch - n) left (w .mean) ≡ full (batch - n) left mean
+      of-window = ap (full (batch - n) left) (sym same)
 
-      module _ (q : full (batch - n) left (w .mean) ≡ false) where
+      pub going-stop : full (batch - n) left mean ≡ true → Drafted (expired-request-entries l w asks batch bytes Unknown) batch hs₀ ts₀ hs ts ix n left lowest
+      going-stop q = ends (by-next ∙ stops l w a rest (batch - n) left (height-of lowest) (of-window ∙ q))
+
+      module _ (q : full (batch - n) left mean ≡ false) where
         pub going-refused : (lower : ℕ) → is-refused l a ≡ true → height-of lower ≡ lower-of (height-of lowest) (a .height)
             → Going l w asks batch bytes hs₀ ts₀ ix₀ hs ts ix n left lower (i + 1)
         going-refused lower r e = rw add-one (record {
@@ -247,8 +257,8 @@ module _ (l : Lent) (w : Window) (asks : List Ask) (batch bytes : ℕ) (hs₀ ts
           long-hashes = g .long-hashes;
           long-heights = g .long-heights;
           long-index = g .long-index;
-          is = g .is ∙ ap (and-asks (g .taken)) (by-next ∙ notes l w a rest (batch - n) left (height-of lowest) q r
-          ∙ ap (expired-request-entries l w rest (batch - n) left) (sym e));
+          is = g .is ∙ ap (and-asks (g .taken)) (by-next ∙ notes l w a rest (batch - n) left (height-of lowest) (of-window ∙ q) r
+              ∙ ap (expired-request-entries l w rest (batch - n) left) (sym e));
         })
 
         module _ (r : is-refused l a ≡ false) where
@@ -263,16 +273,16 @@ module _ (l : Lent) (w : Window) (asks : List Ask) (batch bytes : ℕ) (hs₀ ts
             long-hashes = g .long-hashes;
             long-heights = g .long-heights;
             long-index = g .long-index;
-            is = g .is ∙ ap (and-asks (g .taken)) (by-next ∙ skips l w a rest (batch - n) left (height-of lowest) q r p);
+            is = g .is ∙ ap (and-asks (g .taken)) (by-next ∙ skips l w a rest (batch - n) left (height-of lowest) (of-window ∙ q) r p);
           })
 
           pub going-taken : (hs′ ts′ ix′ : List ℕ) → passed-by (l .staged) (l .floor) w a ≡ false
               → hs′ ≡ placed (4 * n) (hash-words (a .hash)) hs → ts′ ≡ placed n (a .height ∷ []) ts → Indexed (n + 1) hs′ ix′
               → length hs′ ≡ length hs → length ts′ ≡ length ts → length ix′ ≡ length ix
-              → Going l w asks batch bytes hs₀ ts₀ ix₀ hs′ ts′ ix′ (n + 1) (left - w .mean) lowest (i + 1)
+              → Going l w asks batch bytes hs₀ ts₀ ix₀ hs′ ts′ ix′ (n + 1) (left - mean) lowest (i + 1)
           going-taken hs′ ts′ ix′ p eh et x lh lt lx =
               let room : batch - n - 1 ≡ batch - (n + 1) = omega arith in
-              let more : n < batch = room-left batch n left (w .mean) q .0 in
+              let more : n < batch = room-left batch n left mean q .0 in
               rw (add-one i) (record {
                 taken = g .taken ++ (a ∷ []);
                 count = omega (arith, g .count, length-append (g .taken) (a ∷ []));
@@ -283,9 +293,9 @@ module _ (l : Lent) (w : Window) (asks : List Ask) (batch bytes : ℕ) (hs₀ ts
                 long-hashes = lh ∙ g .long-hashes;
                 long-heights = lt ∙ g .long-heights;
                 long-index = lx ∙ g .long-index;
-                is = g .is ∙ ap (and-asks (g .taken)) (by-next ∙ takes l w a rest (batch - n) left (height-of lowest) q r p)
-                ∙ and-more (g .taken) a (expired-request-entries l w rest (batch - n - 1) (left - w .mean) (height-of lowest))
-                ∙ ap (λ (m : ℕ). and-asks (g .taken ++ (a ∷ [])) (expired-request-entries l w rest m (left - w .mean) (height-of lowest))) room;
+                is = g .is ∙ ap (and-asks (g .taken)) (by-next ∙ takes l w a rest (batch - n) left (height-of lowest) (of-window ∙ q) r p)
+                    ∙ and-more (g .taken) a (expired-request-entries l w rest (batch - n - 1) (left - w .mean) (height-of lowest))
+                    ∙ (λ j. and-asks (g .taken ++ (a ∷ [])) (expired-request-entries l w rest (room j) (left - sym same j) (height-of lowest)));
               })
 
 -- ---- the swept, in the order of their keys
@@ -301,6 +311,27 @@ module _ (core keys : List ℕ) (n : ℕ) (room : n ≤ length keys) (asks : Lis
       ap (drop i) e ∙ asks-drop core (take n keys) i (omega (arith, length-take-le n keys room))
       ∙ (λ j. asks-for (entry-from core (k j % 256)) ∷ drop (suc i) (sym e j))
 
-  -- its height has 32 bits
-  pub next-low : (i : ℕ) → i < n → Low asks → entry-from core (getD keys i 0 % 256) .height ≤ max-height
-  next-low i h w = low-drop asks i (asks-for (entry-from core (getD keys i 0 % 256))) (drop (suc i) asks) w (next-ask i h)
+  module _ (i : ℕ) (h : Hash) (height : ℕ) (below : i < n) (eh : h ≡ entry-from core (getD keys i 0 % 256) .hash) (et : height ≡ entry-from core (getD keys i 0 % 256) .height) where
+    -- by its hash and its height
+    pub next-is : drop i asks ≡ ask h height ∷ drop (suc i) asks
+    next-is = next-ask i below ∙ (λ j. ask (sym eh j) (sym et j) ∷ drop (suc i) asks)
+
+    -- which has 32 bits
+    pub next-low : Low asks → height ≤ max-height
+    next-low l = low-drop asks i (ask h height) (drop (suc i) asks) l next-is
+
+-- ---- none was swept
+
+no-asks : (n : ℕ) (core : List ℕ) → n ≡ 0 → length (swept-asks (releases-of n core)) ≤ 0
+unfolding swept-asks releases-of by-height
+no-asks zero core z = omega arith
+no-asks (suc n) core z = absurd (omega arith)
+
+pub none-swept : (staged refused words gone hs ts ix : List ℕ) (floor n batch bytes : ℕ) → n ≡ 0 → Indexed 0 hs ix
+    → Drafted (retries staged refused floor words n gone batch bytes) batch hs ts hs ts ix 0 bytes 0
+unfolding retries
+none-swept staged refused words gone hs ts ix floor n batch bytes z g =
+    let l = lent-for staged refused floor in
+    let w = window-of words in
+    let asks = swept-asks (releases-of n gone) in
+    going-end l w asks batch bytes hs ts ix hs ts ix 0 bytes 0 0 (going-start l w asks batch bytes hs ts ix g) (no-asks n gone z)

@@ -165,6 +165,13 @@ pub fn expired_request_entries(
     requires { ⌜ Lends (now words) (now gone) (now hashes) (now heights) (now index) (now staged) (now «staged_index») (now refused) (now «refused_index») n batch ⌝ }
     ensures { λ r. ⌜ Drafted (retries (now (staged .entry)) (now (refused .entry)) floor (now (words .entry)) n (now (gone .entry)) batch bytes) batch (now (hashes .entry)) (now (heights .entry)) (now (hashes .exit)) (now (heights .exit)) (now (index .exit)) (r .count) (r .bytes) (r .low) ⌝ }
 {
+    if n == 0 {
+        return Draft {
+            count: 0,
+            bytes,
+            low: 0,
+        };
+    }
     let mean = state::get_mean(words);
     let mut keys: [u64; sizes::PLACES] = [0; sizes::PLACES];
     swept_order::sort_swept(&mut keys, gone, n);
