@@ -1,2 +1,3 @@
 pub mod Proposes
 pub mod Swept
+pub mod Rows

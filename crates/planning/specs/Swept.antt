@@ -1,13 +1,12 @@
 -- A request after the sweep: what the code asks and gives there, and the laws of its cases. Assumes nothing.
 use mathlib.Core.Path.{_≡_, refl, sym, ap, subst, _∙_}
 use mathlib.Core.Logic.{inl, inr}
-use mathlib.Core.Bool.{Bool, true, false, true≢false, cond, _||_}
+use mathlib.Core.Bool.{Bool, true, false, cond, _||_}
 use mathlib.Core.List.{List, []}
 use Prim.Native.Nat.{ℕ, zero, suc, _-_, _*_, _≤_, _<_}
 use native.Mathlib.Omega.{arith}
 use lib.ListN.{length}
 use lib.Dec.{eqb, ltb}
-use borrow.Author.Tests.{eqb-false}
 use Rattle.model.specs.Numbers.{lesser}
 use Rattle.model.specs.Window.{Window, Step, stay}
 use Rattle.model.specs.Layout.{window-of, settings-ok}
@@ -82,24 +81,19 @@ abbrev batch-of : Capacity → ℕ
 batch-of no-capacity = 0
 batch-of (capacity batch bytes) = batch
 
-abbrev is-some : Capacity → Bool
-is-some no-capacity = false
-is-some (capacity batch bytes) = true
+some-by : (none : Bool) (k y batch bytes : ℕ) → capacity batch bytes ≡ cond none no-capacity (capacity k y) → batch ≤ k
+some-by true k y batch bytes e = omega (arith, ap batch-of e)
+some-by false k y batch bytes e = omega (arith, ap batch-of e)
 
-some-by : (a b : Bool) (k y batch bytes : ℕ) → capacity batch bytes ≡ cond (a || b) no-capacity (capacity k y) → (a ≡ false) × (batch ≡ k)
-some-by true b k y batch bytes e = absurd (true≢false (ap is-some e))
-some-by false true k y batch bytes e = absurd (true≢false (ap is-some e))
-some-by false false k y batch bytes e = (refl, ap batch-of e)
-
--- a batch has at least one entry, and no more than a window has places
-pub batch-some : (source byte-headroom count-headroom batch bytes : ℕ) (w : Window) → settings-ok (w .settings) ≡ true
-    → capacity batch bytes ≡ compute-request-capacity source byte-headroom count-headroom w → (0 < batch) × (batch ≤ 256)
+-- a batch has no more entries than a window has places
+pub batch-few : (source byte-headroom count-headroom batch bytes : ℕ) (w : Window) → settings-ok (w .settings) ≡ true
+    → capacity batch bytes ≡ compute-request-capacity source byte-headroom count-headroom w → batch ≤ 256
 unfolding compute-request-capacity
-batch-some source byte-headroom count-headroom batch bytes w ok e =
+batch-few source byte-headroom count-headroom batch bytes w ok e =
     let k = batch-limit source count-headroom w in
     let y = byte-capacity byte-headroom w in
-    let q = some-by (eqb k 0) (ltb y (w .mean)) k y batch bytes e in
-    (omega (arith, q .1, eqb-false k 0 (q .0)), omega (arith, q .1, limit-few source count-headroom w ok))
+    let q = some-by (eqb k 0 || ltb y (w .mean)) k y batch bytes e in
+    omega (arith, q, limit-few source count-headroom w ok)
 
 module _ (source n : ℕ) (ws gone chain : List ℕ) (tip start best floor : ℕ) (staged refused : List ℕ) (byte-headroom count-headroom : ℕ) (r : Proposed) (ws′ hashes hashes′ heights heights′ : List ℕ) where
   abbrev swept : Step

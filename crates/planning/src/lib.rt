@@ -1,12 +1,16 @@
 // Request 02, without refusals and lent report: the next request is planned, in words that hold a window. What the sweep lets go is written, nine words
 // each, in `gone`, the plan in `hashes` and `heights`. The last clock is not set here: the public call does that last.
-ghost use Prim.Native.Nat.{_≤_, _<_};
+ghost use mathlib.Core.Path.{_≡_};
+ghost use Prim.Native.Nat.{_/_, _≤_};
+ghost use lib.ListN.{length};
 ghost use Rattle.model.specs.Layout.{window-of};
 ghost use Rattle.model.specs.Planning.{next-peer-request, next-peer-request-allowing-retry};
-ghost use Rattle.listed.specs.Index.{Sized};
+ghost use Rattle.listed.specs.Index.{Sized, Empty, Indexed};
+ghost use Rattle.plan_lists.specs.Lists.{height-of};
 ghost use Rattle.planning.specs.Proposes.{lent, Ready, Proposes};
 ghost use Rattle.planning.specs.Swept.{Swept, Requests, RequestsAfter};
 use capacity::Batch;
+use model::Height;
 use model::sizes;
 
 // How many were swept; how many entries the request has, 0 for no request; its next height.
@@ -33,6 +37,38 @@ const MANY: usize = listed::BUCKETS + MANY_LINKS;
 // The index of a plan.
 const PLAN: usize = listed::BUCKETS + sizes::PLACES;
 
+fn index_lists(
+    index: &mut [u32],
+    staged: &[u64],
+    staged_index: &mut [u32],
+    refused: &[u64],
+    refused_index: &mut [u32],
+)
+    requires { ⌜ Sized (now index) × (Sized (now «staged_index») × Sized (now «refused_index»)) ⌝ }
+    ensures { λ _. ⌜
+        Empty (now (index .exit))
+        × (Indexed (length (now (staged .entry)) / 4) (now (staged .entry)) (now («staged_index» .exit))
+        × Indexed (length (now (refused .entry)) / 4) (now (refused .entry)) (now («refused_index» .exit)))
+        ⌝ }
+{
+    listed::clear(index);
+    listed::index_list(staged_index, staged);
+    listed::index_list(refused_index, refused);
+}
+
+// ---- a request by a capacity
+
+// `height-of`: a height that may be missing, of its number.
+fn height_of(low: u64) -> Height
+    ensures { λ r. ⌜ r ≡ height-of low ⌝ }
+{
+    if low == 0 {
+        return Height::Unknown;
+    }
+    Height::Known(low - 1)
+}
+
+// `request-by` a capacity, over the indexes that are lent: the swept ones, the frontier, then the scan.
 fn plan_with(
     words: &mut [u64],
     gone: &[u64],
@@ -53,18 +89,59 @@ fn plan_with(
     bytes: u64,
 ) -> Proposed
     requires { ⌜
-        Swept n (now words) (now gone) (now hashes) (now heights) (now chain) tip
-        × ((0 < batch) × ((batch ≤ 256) × (Sized (now index) × (Sized (now «staged_index») × Sized (now «refused_index»)))))
+        (Swept n (now words) (now gone) (now hashes) (now heights) (now chain) tip × (batch ≤ 256))
+        × (Sized (now index) × (Sized (now «staged_index») × Sized (now «refused_index»)))
         ⌝ }
     ensures { λ r. ⌜
         Requests n (now (words .entry)) (now (gone .entry)) (now (chain .entry)) tip start best floor (now (staged .entry)) (now (refused .entry)) batch bytes r
         (now (words .exit)) (now (hashes .entry)) (now (hashes .exit)) (now (heights .entry)) (now (heights .exit))
         ⌝ }
 {
+    index_lists(index, staged, staged_index, refused, refused_index);
+    let d = retries::expired_request_entries(
+        words,
+        gone,
+        n,
+        hashes,
+        heights,
+        index,
+        staged,
+        staged_index,
+        refused,
+        refused_index,
+        floor as u64,
+        batch as usize,
+        bytes,
+    );
+    plan_scan::maybe_rewind_request_frontier(words, chain, staged, staged_index, start as u64);
+    let s = plan_scan::scan_of(
+        words,
+        tip as u64,
+        start as u64,
+        best as u64,
+        floor as u64,
+        batch,
+        d.count,
+        d.bytes,
+    );
+    let p = plan_scan::request_from(
+        words,
+        chain,
+        staged,
+        staged_index,
+        refused,
+        refused_index,
+        hashes,
+        heights,
+        index,
+        s,
+        d.count,
+        height_of(d.low),
+    );
     Proposed {
         gone: n,
-        count: 0,
-        next: 0,
+        count: p.count,
+        next: p.next,
     }
 }
 
@@ -85,7 +162,7 @@ fn plan_with_few(
     batch: u64,
     bytes: u64,
 ) -> Proposed
-    requires { ⌜ Swept n (now words) (now gone) (now hashes) (now heights) (now chain) tip × ((0 < batch) × (batch ≤ 256)) ⌝ }
+    requires { ⌜ Swept n (now words) (now gone) (now hashes) (now heights) (now chain) tip × (batch ≤ 256) ⌝ }
     ensures { λ r. ⌜
         Requests n (now (words .entry)) (now (gone .entry)) (now (chain .entry)) tip start best floor (now (staged .entry)) (now (refused .entry)) batch bytes r
         (now (words .exit)) (now (hashes .entry)) (now (hashes .exit)) (now (heights .entry)) (now (heights .exit))
@@ -132,7 +209,7 @@ fn plan_with_many(
     batch: u64,
     bytes: u64,
 ) -> Proposed
-    requires { ⌜ Swept n (now words) (now gone) (now hashes) (now heights) (now chain) tip × ((0 < batch) × (batch ≤ 256)) ⌝ }
+    requires { ⌜ Swept n (now words) (now gone) (now hashes) (now heights) (now chain) tip × (batch ≤ 256) ⌝ }
     ensures { λ r. ⌜
         Requests n (now (words .entry)) (now (gone .entry)) (now (chain .entry)) tip start best floor (now (staged .entry)) (now (refused .entry)) batch bytes r
         (now (words .exit)) (now (hashes .entry)) (now (hashes .exit)) (now (heights .entry)) (now (heights .exit))
@@ -179,7 +256,7 @@ fn request_by(
     batch: u64,
     bytes: u64,
 ) -> Proposed
-    requires { ⌜ Swept n (now words) (now gone) (now hashes) (now heights) (now chain) tip × ((0 < batch) × (batch ≤ 256)) ⌝ }
+    requires { ⌜ Swept n (now words) (now gone) (now hashes) (now heights) (now chain) tip × (batch ≤ 256) ⌝ }
     ensures { λ r. ⌜
         Requests n (now (words .entry)) (now (gone .entry)) (now (chain .entry)) tip start best floor (now (staged .entry)) (now (refused .entry)) batch bytes r
         (now (words .exit)) (now (hashes .entry)) (now (hashes .exit)) (now (heights .entry)) (now (heights .exit))

@@ -4,7 +4,7 @@ use borrow.Author.Needs.{needs}
 use Rattle.capacity.specs.OnNumbers.{batch-says}
 use Rattle.report_words.specs.Report.{releases-of}
 use Rattle.model.specs.Layout.{window-of}
-use Rattle.planning.specs.Swept.{none-planned, batch-some, after-some, after-none}
+use Rattle.planning.specs.Swept.{none-planned, batch-few, after-some, after-none}
 use Rattle.planning.proofs.request_after.Statement.{statement}
 use Rattle.planning.proofs.request_after.Tie as tie
 
@@ -16,7 +16,7 @@ request-by-requires c κs =
     let at = c .before .before .before .before .before .before in
     let s = at .before .before .before .before .before .before .before .before .before in
     let a = s .args in
-    (s .pre, batch-some (a .source) (a .byte-headroom) (a .count-headroom) _ _ (window-of (a .words .now)) (s .pre .sound .settings)
+    (s .pre, batch-few (a .source) (a .byte-headroom) (a .count-headroom) _ _ (window-of (a .words .now)) (s .pre .sound .settings)
     (sym (ap batch-says (c .before .before .before .before .b .given .1)) ∙ at .compute-request-capacity .ensures))
 
 returns : tie.Need-returns
