@@ -1,38 +1,22 @@
 -- What the code asks, and what it gives. Assumes nothing.
-use mathlib.Core.Path.{_≡_, refl, sym, ap, _∙_}
-use mathlib.Core.Bool.{Bool, true, false, not, _||_}
-use mathlib.Core.List.{List, [], _∷_}
+use mathlib.Core.Path.{_≡_, refl}
+use mathlib.Core.List.{List}
 use Prim.Native.Nat.{ℕ, suc, _+_, _*_, _-_, _/_, _≤_}
-use lib.ListN.{length, take, drop}
+use lib.ListN.{length}
 use Rattle.model.specs.Numbers.{lesser, greater, max-height}
-use Rattle.model.specs.Hash.{hashes-in}
 use Rattle.model.specs.Window.{Window, Step}
-use Rattle.model.specs.Layout.{window-of, rising}
-use Rattle.model.specs.Records.{found, is-there}
+use Rattle.model.specs.Layout.{window-of}
 use Rattle.model.specs.Calls.{Ask}
-use Rattle.model.specs.Planning.{Lent, Scan, Draft, Proposal, names, maybe-rewind-request-frontier, contiguous-request-entries, reach, request-from, scan-of, ask-hashes, ask-heights, written}
-use Rattle.model.specs.declared.Hash.{Hash}
+use Rattle.model.specs.Planning.{Lent, Scan, Draft, Proposal, contiguous-request-entries, request-from, scan-of, ask-hashes, ask-heights, written}
 use Rattle.model.specs.declared.Entry.{Entry}
 use Rattle.model.specs.declared.Height.{Height}
 use Rattle.model.specs.declared.Height.the-variants.{Unknown}
-use Rattle.laws.specs.Whole.{Whole, Holds}
 use Rattle.listed.specs.Index.{Indexed}
 use Rattle.plan_scan.specs.declared.RequestScan.{RequestScan}
 use Rattle.plan_scan.specs.declared.Scanning.{Scanning}
 use Rattle.plan_scan.specs.declared.Proposed.{Proposed}
-use Rattle.plan_scan.specs.Scan.{scanned, scan-over}
-use Rattle.plan_scan.specs.Plan.{Drawn}
-
--- ---- the frontier
-
--- the first of some hashes is there, and neither pending nor staged
-abbrev pub first-open : List Entry → List ℕ → List Hash → Bool
-first-open es staged [] = false
-first-open es staged (h ∷ hs) = not (is-there (found h es) || names staged h)
-
-abbrev pub Rewinds : List ℕ → List ℕ → ℕ → List ℕ → List ℕ → Type 0
-Rewinds chain staged start ws ws′ =
-    (l : Lent) → l .chain ≡ chain → l .staged ≡ staged → l .start ≡ start → Holds (maybe-rewind-request-frontier l (window-of ws)) ws′
+use Rattle.plan_look.specs.Scan.{scanned, scan-over}
+use Rattle.plan_look.specs.Plan.{Drawn}
 
 -- ---- `scan-of`
 
@@ -52,13 +36,6 @@ unfolding scan-of
 scan-of-is l w batch d = refl
 
 -- ---- the scan
-
--- what is asked whether it names a hash
-pub record Asked (ws staged staged-index refused refused-index : List ℕ) : Type 0 where
-  pub whole : Whole ws
-  pub rises : rising (window-of ws .queue .pending) ≡ true
-  pub stages : Indexed (length staged / 4) staged staged-index
-  pub refuses : Indexed (length refused / 4) refused refused-index
 
 -- the chain reaches to `last`, and the plan's lists have room for `full`
 pub record Scannable (chain hs ts index : List ℕ) (last count full : ℕ) : Type 0 where

@@ -4,7 +4,7 @@ use mathlib.Core.Path.{_≡_, refl, sym, ap, subst, _∙_}
 use mathlib.Core.Logic.{inl, inr}
 use mathlib.Core.Bool.{Bool, true, false, cond, _||_}
 use mathlib.Core.List.{List, [], _∷_, _++_}
-use Prim.Native.Nat.{ℕ, zero, suc, _≤_, min, max}
+use Prim.Native.Nat.{ℕ, suc, _≤_, min, max}
 use native.Mathlib.Omega.{arith}
 use lib.Dec.{eqb, leb}
 use borrow.Author.Tests.{eqb-true, leb-true, leb-false}
@@ -14,15 +14,15 @@ use Rattle.model.specs.Hash.{same}
 use Rattle.model.specs.Window.{Window}
 use Rattle.model.specs.Records.{found, is-there}
 use Rattle.model.specs.Calls.{Ask}
-use Rattle.model.specs.Planning.{Lent, ask, names, is-refused, is-open, first-named, heights-from, lower-of, noticed, held-back}
+use Rattle.model.specs.Planning.{Lent, ask, names, is-refused, first-named, heights-from, lower-of, noticed, held-back}
 use Rattle.model.specs.declared.Hash.{Hash}
 use Rattle.model.specs.declared.Entry.{Entry}
 use Rattle.model.specs.declared.Height.{Height}
 use Rattle.model.specs.declared.Height.the-variants.{Unknown, Known}
 use Rattle.laws.specs.Numbers.{both, lesser-first, lesser-le-first, greater-le}
-use Rattle.plan_scan.specs.declared.Look.{Look}
-use Rattle.plan_scan.specs.declared.Look.the-variants.{PassBy, NoteRefused, Take}
-use Rattle.plan_scan.specs.Scan.{Scanned, plan-hashes, passes, first-of, look, looked, scan-over, scan-by, scan-full}
+use Rattle.plan_look.specs.declared.Look.{Look}
+use Rattle.plan_look.specs.declared.Look.the-variants.{PassBy, NoteRefused, Take}
+use Rattle.plan_look.specs.Scan.{Scanned, plan-hashes, passes, first-of, look, looked, scan-over, scan-by, scan-full}
 use Rattle.plan_scan.specs.Found.{opens, opens-skip, opens-new, look-is, plan-more}
 
 -- ---- numbers, as omega reads them
@@ -194,3 +194,15 @@ module _ (l : Lent) (w : Window) where
       ]
     ]
   ]
+
+-- ---- held back twice: by what was refused before, and by what the scan met
+
+clamped : (x f m : ℕ) → greater (lesser (greater x f) m) f ≡ greater (lesser x m) f
+clamped x f m = simp (lesser-min, greater-max) (omega arith)
+
+pub held-twice : (low met : Height) (frontier next : ℕ) → held-back met frontier (held-back low frontier next) ≡ held-back (lower-by low met) frontier next
+held-twice low Unknown frontier next = refl
+held-twice Unknown (Known m) frontier next = refl
+held-twice (Known n) (Known m) frontier next =
+    let e : lesser (lesser next n) m ≡ lesser next (lesser n m) = simp lesser-min (omega arith) in
+    clamped (lesser next n) frontier m ∙ ap (λ (x : ℕ). greater x frontier) e

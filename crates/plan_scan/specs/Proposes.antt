@@ -3,31 +3,30 @@ use mathlib.Core.Path.{_≡_, refl, sym, ap, subst, _∙_}
 use mathlib.Core.Logic.{inl, inr}
 use mathlib.Core.Bool.{Bool, true, false, cond, not, _&&_}
 use mathlib.Core.List.{List, [], _∷_}
-use Prim.Native.Nat.{ℕ, zero, suc, _+_, _*_, _-_, _/_, _≤_, _<_}
+use Prim.Native.Nat.{ℕ, suc, _+_, _*_, _-_, _/_, _≤_, _<_}
 use native.Mathlib.Omega.{arith}
 use lib.ListN.{length}
 use lib.Dec.{eqb, ltb, leb, eqb·suc-zero}
 use borrow.Author.Tests.{eq-eqb, ne-eqb, eqb-true, eqb-false, leb-true, ltb-true, not-false}
-use Rattle.model.specs.Numbers.{lesser, greater, next-height}
+use Rattle.model.specs.Numbers.{lesser, greater, next-height, max-height}
 use Rattle.model.specs.Hash.{hashes-in}
 use Rattle.model.specs.Window.{Window, Step}
 use Rattle.model.specs.Layout.{window-of}
 use Rattle.model.specs.Calls.{Ask}
 use Rattle.model.specs.Planning.{Lent, Scan, Draft, Proposal, held-back, non-empty-request, contiguous-request-entries, reach, request-from, ask-hashes, ask-heights, written}
-use Rattle.model.specs.declared.Entry.{Entry}
 use Rattle.model.specs.declared.Height.{Height}
 use Rattle.model.specs.declared.Height.the-variants.{Unknown, Known}
-use Rattle.laws.specs.Numbers.{both, and-left, and-right, lesser-le-second}
+use Rattle.laws.specs.Numbers.{both, and-left, and-right, lesser-le-first, lesser-le-second, second-le-greater}
+use Rattle.listed.specs.Index.{Indexed}
 use Rattle.listed.specs.Search.{length-hashes}
 use Rattle.plan_scan.specs.declared.RequestScan.{RequestScan}
 use Rattle.plan_scan.specs.declared.Scanning.{Scanning}
 use Rattle.plan_scan.specs.declared.Proposed.{Proposed}
-use Rattle.plan_scan.specs.Scan.{Scanned, scanned, scan-over}
-use Rattle.plan_scan.specs.Notes.{lower-by}
-use Rattle.plan_scan.specs.Request.{is-unknown, ended, next-from, met-none, wide, last-height, scan-end, is-met-none, request-scanned, request-over}
-use Rattle.plan_scan.specs.Plan.{height-word, height-of, height-back, Drawn}
-use Rattle.plan_scan.specs.Contracts.{Scannable, Scans, scan-says, Plannable, Given, Planned, Proposes}
-use Rattle.plan_scan.specs.Steps.{held-twice}
+use Rattle.plan_look.specs.Scan.{Scanned, scanned, scan-over}
+use Rattle.plan_scan.specs.Notes.{greater-max, held-twice}
+use Rattle.plan_scan.specs.Request.{is-unknown, ended, next-from, met-none, last-height, scan-end, is-met-none, request-scanned, request-over}
+use Rattle.plan_look.specs.Plan.{height-word, height-of, height-back, Drawn}
+use Rattle.plan_scan.specs.Contracts.{Scannable, Scans, scan-says, scan-at, Plannable, Given, Planned, Proposes}
 
 -- what the code answers, of n asks
 abbrev pub Answers : ℕ → ℕ → Proposed → Type 0
@@ -153,3 +152,26 @@ module _ (chain staged refused : List ℕ) (w : Window) (hs ts hs′ ts′ : Lis
       let y = drawn l t d hs₀ ts₀ g in
       planned (request-from l t (scan-says s) d) t (scan-end l t (scan-says s) d .asks) _ next (x .count) hs₀ ts₀ hs′ ts′ r (requested l t d hs₀ ts₀ g) (y .count)
       (e ∙ next-by l t d hs₀ ts₀ g clean full? c f) a (y .hashes) (y .heights)
+
+-- ---- for callers: what `scan_of` answers is a scan that may be made
+
+pub plannable : (ws chain hs ts index : List ℕ) (r : RequestScan) (tip start best floor batch count bytes : ℕ)
+    → scan-says r ≡ scan-at tip start best floor batch count bytes (window-of ws) → 4 * suc tip ≤ length chain → tip ≤ max-height → batch ≤ 256 → count ≤ 256
+    → Indexed count hs index → 1024 ≤ length hs → 256 ≤ length ts → Plannable ws chain hs ts index r count
+plannable ws chain hs ts index r tip start best floor batch count bytes e long top few room plan h k =
+    let f = window-of ws .frontier in
+    let height : r .height ≡ greater (greater start f) floor = ap (λ (s : Scan). s .height) e in
+    let low : r .tip ≡ lesser tip best = ap (λ (s : Scan). s .tip) e in
+    let limit : r .limit ≡ lesser (batch - count) (bytes / window-of ws .mean) = ap (λ (s : Scan). s .limit) e in
+    let next : r .next ≡ f = ap (λ (s : Scan). s .next) e in
+    let below : r .tip ≤ tip = omega (arith, low, lesser-le-first tip best) in
+    record {
+      reaches = omega (arith, long, below);
+      top = omega (arith, top, below);
+      frontier = next;
+      above = omega (arith, next, height, second-le-greater start f, greater-max (greater start f) floor);
+      plan = plan;
+      room = omega (arith, limit, lesser-le-first (batch - count) (bytes / window-of ws .mean));
+      hashes = h;
+      heights = k;
+    }

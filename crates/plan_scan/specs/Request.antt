@@ -2,13 +2,13 @@
 use mathlib.Core.Path.{_≡_, refl, sym, ap, subst, _∙_}
 use mathlib.Core.Logic.{inl, inr}
 use mathlib.Core.Bool.{Bool, true, false, cond, not, _&&_, _||_, false≢true}
-use mathlib.Core.List.{List, [], _∷_, _++_, map}
-use Prim.Native.Nat.{ℕ, zero, suc, _+_, _-_, _≤_, _<_}
+use mathlib.Core.List.{List, [], _∷_, _++_}
+use Prim.Native.Nat.{ℕ, suc, _+_, _-_, _≤_, _<_}
 use native.Mathlib.Omega.{arith}
 use lib.ListN.{length, take, drop, length-take}
 use lib.Seq.{take-all}
 use lib.Dec.{eqb, ltb, leb, eqb·suc-zero}
-use borrow.Author.Tests.{ltb-true, ltb-false, eq-eqb, ne-eqb, eqb-true, not-false, not-true, le-leb, lt-ltb}
+use borrow.Author.Tests.{ltb-true, ltb-false, eq-eqb, ne-eqb, not-false, not-true, le-leb, lt-ltb}
 use Rattle.model.specs.Numbers.{lesser, greater, next-height}
 use Rattle.model.specs.Lists.{any, select, every}
 use Rattle.model.specs.Hash.{same, hashes-in}
@@ -16,15 +16,14 @@ use Rattle.model.specs.Window.{Window, Step}
 use Rattle.model.specs.Records.{found, is-there}
 use Rattle.model.specs.Races.{is-empty}
 use Rattle.model.specs.Calls.{Ask}
-use Rattle.model.specs.Planning.{Lent, Scan, Draft, Proposal, names, is-pending, is-staged, is-refused, is-open, heights-from, contiguous-request-entries, first-named, lower-of, noticed, held-back, non-empty-request, reach, clean-stretch, is-clean, clean-contiguous-peer-request, open-in-reach, candidates, past, next-after, extend-request-by-reverse-scan, request-from}
+use Rattle.model.specs.Planning.{Lent, Scan, Draft, Proposal, names, is-pending, is-staged, is-refused, is-open, heights-from, contiguous-request-entries, first-named, noticed, held-back, non-empty-request, reach, clean-stretch, is-clean, clean-contiguous-peer-request, open-in-reach, candidates, past, next-after, extend-request-by-reverse-scan, request-from}
 use Rattle.model.specs.declared.Hash.{Hash}
-use Rattle.model.specs.declared.Entry.{Entry}
 use Rattle.model.specs.declared.Height.{Height}
 use Rattle.model.specs.declared.Height.the-variants.{Unknown, Known}
 use Rattle.laws.specs.Numbers.{both}
-use Rattle.plan_scan.specs.Scan.{Scanned, scanned, plan-hashes, scan-over}
-use Rattle.plan_scan.specs.Found.{kept, kept-none, kept-one, opens, wanted, Takes, takes}
-use Rattle.plan_scan.specs.Notes.{lesser-min, greater-max, lower-by, noticed-refused, noticed-not, noticed-from, Notes, alike, beyond, lowest-in, notes}
+use Rattle.plan_look.specs.Scan.{Scanned, scanned, plan-hashes, scan-over}
+use Rattle.plan_scan.specs.Found.{kept, kept-none, kept-one, Takes, takes}
+use Rattle.plan_scan.specs.Notes.{lesser-min, greater-max, lower-by, noticed-refused, noticed-not, noticed-from, Notes, alike, beyond, notes}
 
 -- ---- the end of a scan
 

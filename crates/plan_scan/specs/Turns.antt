@@ -1,29 +1,24 @@
 -- The scan's loop: what holds at its head, its turn and its two ends. Assumes nothing.
 use mathlib.Core.Path.{_≡_, refl, sym, ap, subst, _∙_}
-use mathlib.Core.Bool.{Bool, _||_}
 use mathlib.Core.List.{List, [], _∷_, _++_}
-use Prim.Native.Nat.{ℕ, zero, suc, _+_, _*_, _-_, _/_, _≤_, _<_}
+use Prim.Native.Nat.{ℕ, zero, suc, _+_, _*_, _-_, _≤_, _<_}
 use native.Mathlib.Nat.{not-suc-le-zero, le-of-suc-le-suc}
 use native.Mathlib.Omega.{arith}
 use lib.ListN.{length, take, drop, getD, length-take, length-drop, take-append-drop}
 use lib.Seq.{take-suc, take-all, getD-take, getD-drop}
-use Rattle.model.specs.Lists.{any}
-use Rattle.model.specs.Hash.{hash, same, hash-words, hashes-in}
-use Rattle.model.specs.Records.{found, is-there}
+use Rattle.model.specs.Hash.{hash, hash-words, hashes-in}
 use Rattle.model.specs.Calls.{Ask}
 use Rattle.model.specs.Planning.{ask, names, heights-from, contiguous-request-entries, ask-hashes, ask-heights, written}
 use Rattle.model.specs.declared.Hash.{Hash}
 use Rattle.model.specs.declared.Entry.{Entry}
-use Rattle.model.specs.declared.Height.{Height}
 use Rattle.model.specs.declared.Height.the-variants.{Unknown}
 use Rattle.requests.specs.Asks.{hash-in}
 use Rattle.listed.specs.Index.{Indexed}
 use Rattle.listed.specs.Search.{length-hashes, hashes-at}
-use Rattle.plan_scan.specs.declared.Look.{Look}
-use Rattle.plan_scan.specs.declared.Scanning.{Scanning}
-use Rattle.plan_scan.specs.Scan.{Scanned, scanned, passes, look-of, look, looked, scan-over, scan-append, scan-full}
+use Rattle.plan_look.specs.declared.Look.{Look}
+use Rattle.plan_look.specs.Scan.{Scanned, scanned, passes, look-of, look, looked, scan-over, scan-append, scan-full}
 use Rattle.plan_scan.specs.Request.{heights-length}
-use Rattle.plan_scan.specs.Plan.{count-after, first-after, next-after, words-after, Drawn, drawn-turn}
+use Rattle.plan_look.specs.Plan.{count-after, first-after, next-past, words-after, Drawn, drawn-turn}
 use Rattle.plan_scan.specs.Contracts.{Scannable, Scans}
 
 heights-at : (hs : List Hash) (n j : ℕ) (z : Ask) (g : Hash) → j < length hs → getD (heights-from n hs) j z ≡ ask (getD hs j g) (n + j)
@@ -99,7 +94,7 @@ module _ (es : List Entry) (chain staged refused hs₁ ts₁ ix₁ : List ℕ) (
           → k ≡ look-of (passes es staged (take n (hashes-in hs)) (ask h height)) (names refused h)
           → (hs′ ts′ ix′ : List ℕ) → hs′ ≡ words-after k (4 * n) (hash-words h) hs → ts′ ≡ words-after k n (height ∷ []) ts → Indexed (count-after k n) hs′ ix′
           → length hs′ ≡ length hs → length ts′ ≡ length ts → length ix′ ≡ length ix → (n′ first′ next′ : ℕ)
-          → n′ ≡ count-after k n → first′ ≡ first-after k first height → next′ ≡ next-after k next height → Turning (height + 1) n′ first′ next′ hs′ ts′ ix′
+          → n′ ≡ count-after k n → first′ ≡ first-after k first height → next′ ≡ next-past k next height → Turning (height + 1) n′ first′ next′ hs′ ts′ ix′
       unfolding scan-over
       turning-step b w h e k by hs′ ts′ ix′ eh et plan lh lt li n′ first′ next′ en ef ex = record {
         start = omega (arith, t .start);

@@ -1,26 +1,19 @@
-// Request 02: what is left of a plan once the swept ones are in it: the frontier rewound, the clean stretch and the scan, over words that hold a window.
+// Request 02: what is left of a plan once the swept ones are in it and the frontier is rewound: the clean stretch and the scan, over words that hold a window.
 // The chain, and the staged and refused hashes, are lists of four words a hash; each list that is asked whether it names a hash has an index (crate
 // `listed`). The plan is in two lent lists, `hashes` and `heights`, with its own index; `count` asks are in them already.
 ghost use mathlib.Core.Path.{_≡_};
-ghost use mathlib.Core.Bool.{true, cond, not, _&&_, _||_};
-ghost use mathlib.Core.List.{_∷_, []};
-ghost use Prim.Native.Nat.{suc, _+_, _-_, _*_, _/_, _<_, _≤_};
-ghost use lib.ListN.{length, take, drop};
+ghost use mathlib.Core.Bool.{cond, _&&_};
+ghost use Prim.Native.Nat.{_+_, _-_, _<_, _≤_};
+ghost use lib.ListN.{length};
 ghost use lib.Dec.{eqb, ltb, leb};
 ghost use Rattle.model.specs.Numbers.{lesser, greater, next-height, max-height};
-ghost use Rattle.model.specs.Lists.{any};
-ghost use Rattle.model.specs.Hash.{same, hash-words, hashes-in};
-ghost use Rattle.model.specs.Records.{found, is-there};
-ghost use Rattle.model.specs.Planning.{names, held-back};
-ghost use Rattle.model.specs.Layout.{window-of, rising};
-ghost use Rattle.laws.specs.Whole.{Whole};
-ghost use Rattle.listed.specs.Index.{Indexed};
-ghost use Rattle.plan_scan.specs.Scan.{look-of};
-ghost use Rattle.plan_scan.specs.Plan.{height-of, count-after, first-after, next-after, placed, TakenAt};
-ghost use Rattle.plan_scan.specs.Contracts.{first-open, Rewinds, Asked, Scannable, Scans, Plannable, Proposes, scan-says, scan-at};
-use model::Hash;
+ghost use Rattle.model.specs.Hash.{base};
+ghost use Rattle.model.specs.Planning.{held-back};
+ghost use Rattle.model.specs.Layout.{window-of};
+ghost use Rattle.plan_look.specs.Plan.{height-of};
+ghost use Rattle.plan_look.specs.Steps.{Asked};
+ghost use Rattle.plan_scan.specs.Contracts.{Scannable, Scans, Plannable, Proposes, scan-says, scan-at};
 use model::Height;
-use model::limits;
 use model::sizes::HASH_WORDS;
 
 // The Rust's `RequestScan`.
@@ -37,70 +30,11 @@ pub struct Proposed {
     pub next: u64,
 }
 
-// What the scan does at a height.
-pub enum Look {
-    PassBy,
-    NoteRefused,
-    Take,
-}
-
 // How far the scan came: the asks in the plan, the first refused height that it met (0 for none, n + 1 for n), the next height.
 struct Scanning {
     count: usize,
     first: u64,
     next: u64,
-}
-
-// ---- the frontier
-
-// `is-open`
-fn is_open(words: &[u64], staged: &[u64], staged_index: &[u32], h: Hash) -> bool
-    requires { ⌜ Whole (now words) × ((rising (window-of (now words) .queue .pending) ≡ true) × Indexed (length (now staged) / 4) (now staged) (now «staged_index»)) ⌝ }
-    ensures { λ r. ⌜ r ≡ not (is-there (found h (window-of (now (words .entry)) .queue .pending)) || names (now (staged .entry)) h) ⌝ }
-{
-    if queries::contains_pending(words, h) {
-        return false;
-    }
-    !listed::names(staged_index, staged, h)
-}
-
-// Whether the frontier is above `start`, whose hash is open.
-fn is_rewound(
-    words: &[u64],
-    chain: &[u64],
-    staged: &[u64],
-    staged_index: &[u32],
-    start: u64,
-) -> bool
-    requires { ⌜ Whole (now words) × ((rising (window-of (now words) .queue .pending) ≡ true) × Indexed (length (now staged) / 4) (now staged) (now «staged_index»)) ⌝ }
-    ensures { λ r. ⌜ r ≡ (ltb start (window-of (now (words .entry)) .frontier) && first-open (window-of (now (words .entry)) .queue .pending) (now (staged .entry)) (drop start (hashes-in (now (chain .entry))))) ⌝ }
-{
-    let frontier = state::get_frontier(words);
-    if frontier <= start {
-        return false;
-    }
-    let at = start as usize;
-    if chain.len() / HASH_WORDS <= at {
-        return false;
-    }
-    let h = requests::hash_in(chain, HASH_WORDS * at);
-    is_open(words, staged, staged_index, h)
-}
-
-// `maybe-rewind-request-frontier`
-pub fn maybe_rewind_request_frontier(
-    words: &mut [u64],
-    chain: &[u64],
-    staged: &[u64],
-    staged_index: &[u32],
-    start: u64,
-)
-    requires { ⌜ Whole (now words) × ((rising (window-of (now words) .queue .pending) ≡ true) × Indexed (length (now staged) / 4) (now staged) (now «staged_index»)) ⌝ }
-    ensures { λ _. ⌜ Rewinds (now (chain .entry)) (now (staged .entry)) start (now (words .entry)) (now (words .exit)) ⌝ }
-{
-    if is_rewound(words, chain, staged, staged_index, start) {
-        state::set_frontier(words, start);
-    }
 }
 
 // `scan-of`: `batch` asks may be made, and `count` are in the plan, for which `bytes` are left.
@@ -129,109 +63,6 @@ pub fn scan_of(
         tip: top,
         limit,
         next: frontier,
-    }
-}
-
-// ---- one height
-
-// `look-of` a hash: whether it is pending, staged or in the plan, and whether it is refused.
-fn look_at(
-    words: &[u64],
-    staged: &[u64],
-    staged_index: &[u32],
-    refused: &[u64],
-    refused_index: &[u32],
-    hashes: &[u64],
-    index: &[u32],
-    n: usize,
-    h: Hash,
-) -> Look
-    requires { ⌜ Asked (now words) (now staged) (now «staged_index») (now refused) (now «refused_index») × (Indexed n (now hashes) (now index) × (4 * n ≤ length (now hashes))) ⌝ }
-    ensures { λ r. ⌜ r ≡ look-of (is-there (found h (window-of (now (words .entry)) .queue .pending)) || names (now (staged .entry)) h || any (same h) (take n (hashes-in (now (hashes .entry))))) (names (now (refused .entry)) h) ⌝ }
-{
-    if !is_open(words, staged, staged_index, h) {
-        return Look::PassBy;
-    }
-    if listed::names_first(index, hashes, n, h) {
-        return Look::PassBy;
-    }
-    if listed::names(refused_index, refused, h) {
-        return Look::NoteRefused;
-    }
-    Look::Take
-}
-
-fn count_after(k: Look, n: usize) -> usize
-    requires { ⌜ n < 256 ⌝ }
-    ensures { λ r. ⌜ r ≡ count-after k n ⌝ }
-{
-    match k {
-        Look::PassBy => n,
-        Look::NoteRefused => n,
-        Look::Take => n + 1,
-    }
-}
-
-// The first one noted is the lowest, since heights rise.
-fn first_after(k: Look, first: u64, height: u64) -> u64
-    requires { ⌜ height ≤ max-height ⌝ }
-    ensures { λ r. ⌜ r ≡ first-after k first height ⌝ }
-{
-    match k {
-        Look::PassBy => first,
-        Look::NoteRefused => {
-            if first == 0 {
-                return height + 1;
-            }
-            first
-        }
-        Look::Take => first,
-    }
-}
-
-fn next_after(k: Look, next: u64, height: u64) -> u64
-    requires { ⌜ height ≤ max-height ⌝ }
-    ensures { λ r. ⌜ r ≡ next-after k next height ⌝ }
-{
-    match k {
-        Look::PassBy => next,
-        Look::NoteRefused => next,
-        Look::Take => numbers::greater(next, numbers::next_height(height)),
-    }
-}
-
-// An ask after the n that are in the plan.
-fn put_ask(hashes: &mut [u64], heights: &mut [u32], n: usize, h: Hash, height: u64)
-    requires { ⌜ (4 * n + 4 ≤ length (now hashes)) × ((n < length (now heights)) × (height ≤ max-height)) ⌝ }
-    ensures { λ _. ⌜ (now (hashes .exit) ≡ placed (4 * n) (hash-words h) (now (hashes .entry))) × (now (heights .exit) ≡ placed n (height ∷ []) (now (heights .entry))) ⌝ }
-{
-    let words = [h.a, h.b, h.c, h.d];
-    let a = HASH_WORDS * n;
-    let z = a + HASH_WORDS;
-    column::copy_over(&mut hashes[a..z], &words);
-    heights[n] = height as u32;
-}
-
-// Where it takes, the hash goes into the plan with its height, and into the plan's index.
-fn take_at(
-    k: Look,
-    hashes: &mut [u64],
-    heights: &mut [u32],
-    index: &mut [u32],
-    n: usize,
-    h: Hash,
-    height: u64,
-)
-    requires { ⌜ Indexed n (now hashes) (now index) × ((4 * n + 4 ≤ length (now hashes)) × ((n < length (now heights)) × (height ≤ max-height))) ⌝ }
-    ensures { λ _. ⌜ TakenAt k n h height (now (hashes .entry)) (now (heights .entry)) (now (hashes .exit)) (now (heights .exit)) (now (index .exit)) ⌝ }
-{
-    match k {
-        Look::PassBy => {}
-        Look::NoteRefused => {}
-        Look::Take => {
-            put_ask(hashes, heights, n, h, height);
-            listed::add(index, hashes, n);
-        }
     }
 }
 
@@ -270,7 +101,7 @@ fn scan_chain(
             };
         }
         let h = requests::hash_in(chain, HASH_WORDS * height as usize);
-        let k = look_at(
+        let k = plan_look::look_at(
             words,
             staged,
             staged_index,
@@ -281,10 +112,10 @@ fn scan_chain(
             n,
             h,
         );
-        take_at(k, hashes, heights, index, n, h, height);
-        n = count_after(k, n);
-        first = first_after(k, first, height);
-        next = next_after(k, next, height);
+        plan_look::take_at(k, hashes, heights, index, n, h, height);
+        n = plan_look::count_after(k, n);
+        first = plan_look::first_after(k, first, height);
+        next = plan_look::next_past(k, next, height);
         height += 1;
     }
     Scanning {
@@ -298,7 +129,7 @@ fn scan_chain(
 
 // `reach` of a scan for `limit`, over what is pending, staged and taken
 fn reach(height: u64, tip: u64, limit: u64, pending: usize, staged: usize, taken: usize) -> u64
-    requires { ⌜ (height ≤ max-height) × ((0 < limit) × ((taken + limit ≤ 256) × ((pending ≤ 256) × (staged ≤ 4611686018427387904)))) ⌝ }
+    requires { ⌜ (0 < limit) × (height + (limit + (pending + (staged + taken))) < base) ⌝ }
     ensures { λ r. ⌜ r ≡ lesser (height + (limit + (pending + (staged + taken)) - 1)) tip ⌝ }
 {
     let span = limit + (pending + (staged + taken)) as u64;

@@ -15,16 +15,17 @@ use Rattle.model.specs.Calls.{Ask}
 use Rattle.model.specs.Planning.{Lent, Scan, Draft, Proposal, no-request, non-empty-request, held-back, is-first-open, maybe-rewind-request-frontier, is-clean, clean-contiguous-peer-request, extend-request-by-reverse-scan, expired-request-entries, swept-asks, scan-of, request-from}
 use Rattle.model.specs.declared.Height.{Height}
 use Rattle.model.specs.declared.Height.the-variants.{Unknown, Known}
-use Rattle.laws.specs.Numbers.{lesser-le-first}
+use Rattle.laws.specs.Sound.{Sound}
 use Rattle.laws.specs.Whole.{Holds, sound-rises}
 use Rattle.report_words.specs.Report.{releases-of}
 use Rattle.listed.specs.Index.{Indexed, Empty}
 use Rattle.plan_lists.specs.Lists.{height-of}
 use Rattle.retries.specs.Retries.{retries, retries-are, Lends, Drafted}
+use Rattle.plan_look.specs.Steps.{Asked, Rewinds, rewound-sound}
 use Rattle.plan_scan.specs.declared.RequestScan.{RequestScan}
 use Rattle.plan_scan.specs.declared.Proposed as scanned
-use Rattle.plan_scan.specs.Notes.{greater-max}
-use Rattle.plan_scan.specs.Contracts.{Rewinds, scan-says, scan-at, scan-of-is, Asked, Plannable, Planned}
+use Rattle.plan_scan.specs.Proposes.{plannable}
+use Rattle.plan_scan.specs.Contracts.{scan-says, scan-at, scan-of-is, Plannable, Planned}
 use Rattle.plan_scan.specs.Contracts as scan
 use Rattle.planning.specs.Proposes.{lent, Proposes}
 use Rattle.planning.specs.Swept.{step, Swept, Requests}
@@ -61,17 +62,6 @@ module _ (t : Step) where
       (non-empty-request t (d .asks) (held-back (d .low) (t .window .frontier) (s .next)))
       (either (is-clean l (t .window) s d) made extended (request-leaves _ _) (request-leaves _ _)) (request-leaves (d .asks) _)
 
--- ---- a rewound window
-
-module _ (l : Lent) (w : Window) where
-  rewound : (maybe-rewind-request-frontier l w .mean ≡ w .mean) × (maybe-rewind-request-frontier l w .queue ≡ w .queue)
-  unfolding maybe-rewind-request-frontier
-  rewound = by (ltb (l .start) (w .frontier) && is-first-open l w (drop (l .start) (hashes-in (l .chain))))
-    where
-      by : (b : Bool) → (cond b (with-frontier (l .start) w) w .mean ≡ w .mean) × (cond b (with-frontier (l .start) w) w .queue ≡ w .queue)
-      by true = (refl, refl)
-      by false = (refl, refl)
-
 -- ---- the steps
 
 module _ {n : ℕ} {ws gone hs ts chain : List ℕ} {tip : ℕ} (g : Swept n ws gone hs ts chain tip) (start best floor : ℕ) (staged refused : List ℕ) (batch bytes : ℕ) (few : batch ≤ 256) where
@@ -98,43 +88,22 @@ module _ {n : ℕ} {ws gone hs ts chain : List ℕ} {tip : ℕ} (g : Swept n ws 
     abbrev l₀ : Lent
     l₀ = lent chain tip start best floor staged refused false 0 0
 
+    sound₁ : Sound (g .clock) (window-of ws₁)
+    sound₁ = subst (Sound (g .clock)) (sym (at false 0 0 .is)) (rewound-sound l₀ (g .sound))
+
     pub has-mean : (length ws₁ ≡ 4096) × (0 < window-of ws₁ .mean)
-    has-mean =
-        let h = at false 0 0 in
-        (h .whole .long, omega (arith, ap (λ (v : Window). v .mean) (h .is), rewound l₀ (window-of ws) .0, g .sound .mean-least))
+    has-mean = (at false 0 0 .whole .long, omega (arith, sound₁ .mean-least))
 
     pub asked : (staged-index refused-index : List ℕ) → Indexed (length staged / 4) staged staged-index → Indexed (length refused / 4) refused refused-index
         → Asked ws₁ staged staged-index refused refused-index
-    asked staged-index refused-index i j =
-        let h = at false 0 0 in
-        let same = ap (λ (v : Window). v .queue) (h .is) ∙ rewound l₀ (window-of ws) .1 in
-        record {
-          whole = h .whole;
-          rises = ap (λ (q : Queue). rising (q .pending)) same ∙ sound-rises (g .clock) (window-of ws) (g .sound);
-          stages = i;
-          refuses = j;
-        }
+    asked staged-index refused-index i j = record { whole = at false 0 0 .whole; rises = sound-rises (g .clock) (window-of ws₁) sound₁; stages = i; refuses = j }
 
     module _ (hs₁ ts₁ index : List ℕ) (count left lowest : ℕ) (d : Drafted (retries staged refused floor ws n gone batch bytes) batch hs ts hs₁ ts₁ index count left lowest)
         (s : RequestScan) (e : scan-says s ≡ scan-at tip start best floor batch count left (window-of ws₁)) where
-      pub plannable : length hs₁ ≡ length hs → length ts₁ ≡ length ts → tip ≤ max-height → Plannable ws₁ chain hs₁ ts₁ index s count
-      plannable lh lt top =
-          let f = window-of ws₁ .frontier in
-          let tip-is : s .tip ≡ lesser tip best = ap (λ (x : Scan). x .tip) e in
-          let next-is : s .next ≡ f = ap (λ (x : Scan). x .next) e in
-          let height-is : s .height ≡ greater (greater start f) floor = ap (λ (x : Scan). x .height) e in
-          let limit-is : s .limit ≡ lesser (batch - count) (left / window-of ws₁ .mean) = ap (λ (x : Scan). x .limit) e in
-          let lower = lesser-le-first tip best in
-          record {
-            reaches = omega (arith, tip-is, lower, g .reaches);
-            top = omega (arith, tip-is, lower);
-            frontier = next-is;
-            above = omega (arith, next-is, height-is, greater-max start f, greater-max (greater start f) floor);
-            plan = d .index;
-            room = omega (arith, limit-is, lesser-le-first (batch - count) (left / window-of ws₁ .mean), d .few);
-            hashes = omega (arith, g .hashes);
-            heights = omega (arith, g .heights);
-          }
+      pub scannable : length hs₁ ≡ length hs → length ts₁ ≡ length ts → tip ≤ max-height → Plannable ws₁ chain hs₁ ts₁ index s count
+      scannable lh lt top =
+          plannable ws₁ chain hs₁ ts₁ index s tip start best floor batch count left e (omega (arith, g .reaches)) top few (omega (arith, d .few))
+          (d .index) (omega (arith, g .hashes)) (omega (arith, g .heights))
 
       module _ (low : Height) (k : low ≡ height-of lowest) (hs₂ ts₂ : List ℕ) (r : scanned.Proposed)
           (p : scan.Proposes chain staged refused (window-of ws₁) hs₁ ts₁ s count low hs₂ ts₂ r) where

@@ -113,7 +113,7 @@ fn plan_with(
         batch as usize,
         bytes,
     );
-    plan_scan::maybe_rewind_request_frontier(words, chain, staged, staged_index, start as u64);
+    plan_look::maybe_rewind_request_frontier(words, chain, staged, staged_index, start as u64);
     let s = plan_scan::scan_of(
         words,
         tip as u64,

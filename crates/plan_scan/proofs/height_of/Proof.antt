@@ -1,5 +1,5 @@
 -- `plan_scan::height_of` meets its contract. Assumes nothing.
-use Rattle.plan_scan.specs.Plan.{height-some}
+use Rattle.plan_look.specs.Plan.{height-some}
 use borrow.Author.Needs.{needs}
 use Rattle.plan_scan.proofs.height_of.Statement.{statement}
 use Rattle.plan_scan.proofs.height_of.Tie as tie

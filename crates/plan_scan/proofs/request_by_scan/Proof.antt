@@ -11,7 +11,9 @@ pending-count-requires : tie.Need-pending-count-requires
 pending-count-requires c κs = search needs
 
 reach-requires : tie.Need-reach-requires
-reach-requires c κs = search needs
+reach-requires c κs =
+    let p = c .before .before .before .before .before .before .before .before .before .before .pre .1 in
+    (p .1 .1, omega (arith, p .1 .0, p .0 .top, p .0 .room, c .pending-count .ensures .1))
 
 add-full : tie.Need-add-full
 add-full c = search needs

@@ -1,5 +1,4 @@
 -- `plan_scan::scan_chain` meets its contract: at the loop's head the heights below are looked at. Assumes nothing.
-use mathlib.Core.Path.{ap}
 use Prim.Native.Nat.{_+_, _-_}
 use native.Mathlib.Omega.{arith}
 use Rattle.model.specs.Layout.{window-of}
@@ -70,8 +69,8 @@ first-after-requires c κs =
     let s = c .before .before .before .before .before .before .before .before .before .before .before .before .before .before .before .before .before .before .before .before .before .before .before .before .before .before .before in
     omega (arith, s .pre .1 .top, c .before .before .before .before .before .before .before .before .before .before .before .before .before .before .before .before .loop-test .taken)
 
-next-after-requires : tie.Need-next-after-requires Inv-loop μ-loop
-next-after-requires c κs =
+next-past-requires : tie.Need-next-past-requires Inv-loop μ-loop
+next-past-requires c κs =
     let s = c .before .before .before .before .before .before .before .before .before .before .before .before .before .before .before .before .before .before .before .before .before .before .before .before .before .before .before .before in
     omega (arith, s .pre .1 .top, c .before .before .before .before .before .before .before .before .before .before .before .before .before .before .before .before .before .loop-test .taken)
 
@@ -90,7 +89,7 @@ loop-again c =
     let a = s .args in
     let t = c .before .before .before .before .before .before .before .before .before .take-at in
     turning-step (window-of (a .words .now) .queue .pending) (a .chain .now) (a .staged .now) (a .refused .now) (a .hashes .now) (a .heights .now) (a .index .now) (a .from) (a .last) (a .count) (a .full) (a .frontier) (s .pre .1) (v .height) (v .n) (v .first) (v .next) (v .hashes) (v .heights) (v .index) (v .inv) (c .before .before .before .before .before .before .before .before .before .before .before .before .before .before .before .before .before .before .loop-test .taken) (c .before .before .before .before .before .before .before .before .before .before .before .before .before .before .before .before .before .if1 .left) _ (c .before .before .before .before .before .before .before .before .before .before .before .before .before .before .before .before .hash-in .ensures) _ (c .before .before .before .before .before .before .before .before .before .before .before .before .before .look-at .ensures)
-    (t .last .1 .0) (t .last .1 .1 .0) (t .last .1 .1 .1 .0) (t .ensures .0) (t .ensures .1 .0) (t .ensures .1 .1) (t .kept .1 .0) (t .kept .1 .1 .0) (t .kept .1 .1 .1 .0) _ _ _ (c .before .before .count-after .ensures) (c .before .first-after .ensures) (c .next-after .ensures)
+    (t .last .1 .0) (t .last .1 .1 .0) (t .last .1 .1 .1 .0) (t .ensures .0) (t .ensures .1 .0) (t .ensures .1 .1) (t .kept .1 .0) (t .kept .1 .1 .0) (t .kept .1 .1 .1 .0) _ _ _ (c .before .before .count-after .ensures) (c .before .first-after .ensures) (c .next-past .ensures)
 
 same-length-4 : tie.Need-same-length-4 Inv-loop μ-loop
 same-length-4 c = c .before .loop .inv .hashes
@@ -125,7 +124,7 @@ scan-chain-spec =
     take-at-requires
     count-after-requires
     first-after-requires
-    next-after-requires
+    next-past-requires
     add-height
     loop-less
     loop-again

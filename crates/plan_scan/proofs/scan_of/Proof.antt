@@ -1,6 +1,6 @@
 -- `plan_scan::scan_of` meets its contract. Assumes nothing.
 use mathlib.Core.Path.{ap, _∙_}
-use Prim.Native.Nat.{ℕ, _-_, _/_}
+use Prim.Native.Nat.{ℕ, _/_}
 use Rattle.model.specs.Numbers.{lesser, greater}
 use borrow.Author.Needs.{needs}
 use Rattle.plan_scan.proofs.scan_of.Statement.{statement}

@@ -8,7 +8,7 @@ returns : tie.Need-returns
 returns c = height-none (c .before .args .low) (c .if1 .taken)
 
 returns-2 : tie.Need-returns-2
-returns-2 c = height-some (c .before .before .args .low) (c .before .if1 .left)
+returns-2 c = height-some (c .before .args .low) (c .if1 .left)
 
 pub height-of-spec : {M : Type 1} → statement M
 height-of-spec = tie.close (tie.spec returns (λ c. omega (arith, c .if1 .left)) returns-2)

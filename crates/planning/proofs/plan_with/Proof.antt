@@ -4,7 +4,7 @@ use native.Mathlib.Omega.{arith}
 use borrow.Author.Needs.{needs}
 use Rattle.model.specs.Layout.{window-of}
 use Rattle.laws.specs.Whole.{sound-rises}
-use Rattle.planning.specs.Rows.{lends, has-mean, asked, plannable, requests}
+use Rattle.planning.specs.Rows.{lends, has-mean, asked, scannable, requests}
 use Rattle.planning.proofs.plan_with.Statement.{statement}
 use Rattle.planning.proofs.plan_with.Tie as tie
 
@@ -41,7 +41,7 @@ request-from-requires c κs =
     let s = c .before .before .before .before .before .before .before .before .before .before .before .before .before .before .before .before .before .before .before .before .before .before .before .before .before .before .before .before .before .before .before .before .before .before .before .before .before .before .before .before .before .before .before .before .before .before .before in
     let a = s .args in
     (asked (s .pre .0 .0) (a .start) (a .best) (a .floor) (a .staged .now) (a .refused .now) (a .batch) (a .bytes) (s .pre .0 .1) _ (y .ensures) _ _ (i .1 .0) (i .1 .1),
-    plannable (s .pre .0 .0) (a .start) (a .best) (a .floor) (a .staged .now) (a .refused .now) (a .batch) (a .bytes) (s .pre .0 .1) _ (y .ensures)
+    scannable (s .pre .0 .0) (a .start) (a .best) (a .floor) (a .staged .now) (a .refused .now) (a .batch) (a .bytes) (s .pre .0 .1) _ (y .ensures)
     _ _ _ (x .result .count) (x .result .bytes) (x .result .low) (x .ensures) (z .result) (z .ensures) (x .kept .1 .1 .1 .0) (x .kept .1 .1 .1 .1 .0) (omega (arith, s .fits .tip)))
 
 returns : tie.Need-returns

@@ -1,8 +1,8 @@
--- `plan_scan::first_after` meets its contract. Assumes nothing.
-use Rattle.plan_scan.specs.Plan.{first-noted, first-stays}
+-- `plan_look::first_after` meets its contract. Assumes nothing.
+use Rattle.plan_look.specs.Plan.{first-noted, first-stays}
 use borrow.Author.Needs.{needs}
-use Rattle.plan_scan.proofs.first_after.Statement.{statement}
-use Rattle.plan_scan.proofs.first_after.Tie as tie
+use Rattle.plan_look.proofs.first_after.Statement.{statement}
+use Rattle.plan_look.proofs.first_after.Tie as tie
 
 enum-told : tie.Need-enum-told
 enum-told c = search needs

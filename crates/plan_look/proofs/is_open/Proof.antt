@@ -1,10 +1,10 @@
--- `plan_scan::is_open` meets its contract. Assumes nothing.
+-- `plan_look::is_open` meets its contract. Assumes nothing.
 use mathlib.Core.Path.{sym, ap, _∙_}
 use mathlib.Core.Bool.{Bool, not, _||_}
 use Rattle.model.specs.Planning.{names}
 use borrow.Author.Needs.{needs}
-use Rattle.plan_scan.proofs.is_open.Statement.{statement}
-use Rattle.plan_scan.proofs.is_open.Tie as tie
+use Rattle.plan_look.proofs.is_open.Statement.{statement}
+use Rattle.plan_look.proofs.is_open.Tie as tie
 
 contains-pending-requires : tie.Need-contains-pending-requires
 contains-pending-requires c κs = search needs

@@ -1,31 +1,46 @@
--- What the tests of the code say: of the frontier, and of a height that is looked at. Assumes nothing.
+-- What the code asks, and what its tests say: of the frontier, and of a height that is looked at. Assumes nothing.
 use mathlib.Core.Path.{_≡_, refl, sym, ap, subst, _∙_}
-use mathlib.Core.Bool.{Bool, true, false, cond, not, _&&_, _||_, false≢true, and-false}
+use mathlib.Core.Logic.{inl, inr}
+use mathlib.Core.Bool.{Bool, true, false, cond, not, _&&_, _||_, and-false}
 use mathlib.Core.List.{List, [], _∷_}
-use Prim.Native.Nat.{ℕ, zero, suc, _+_, _*_, _-_, _/_, _≤_, _<_}
+use Prim.Native.Nat.{ℕ, suc, _*_, _/_, _≤_, _<_}
 use native.Mathlib.Omega.{arith}
-use lib.ListN.{length, drop, getD, drop-of-length-le}
+use lib.ListN.{length, drop, drop-of-length-le}
 use lib.Seq.{drop-cons}
-use lib.Dec.{eqb, ltb}
-use borrow.Author.Tests.{lt-ltb, le-ltb}
-use Rattle.model.specs.Numbers.{lesser, greater}
+use lib.Dec.{ltb}
+use borrow.Author.Tests.{lt-ltb, le-ltb, ltb-true}
 use Rattle.model.specs.Hash.{hash, hashes-in}
 use Rattle.model.specs.Window.{Window, with-frontier}
-use Rattle.model.specs.Layout.{window-of}
+use Rattle.model.specs.Layout.{window-of, rising}
 use Rattle.model.specs.Records.{found, is-there}
-use Rattle.model.specs.Planning.{Lent, names, is-pending, is-staged, is-open, is-first-open, maybe-rewind-request-frontier, lower-of, held-back}
+use Rattle.model.specs.Planning.{Lent, names, is-pending, is-staged, is-open, is-first-open, maybe-rewind-request-frontier}
 use Rattle.model.specs.declared.Hash.{Hash}
 use Rattle.model.specs.declared.Entry.{Entry}
-use Rattle.model.specs.declared.Height.{Height}
-use Rattle.model.specs.declared.Height.the-variants.{Unknown, Known}
-use Rattle.laws.specs.Whole.{Holds}
+use Rattle.laws.specs.Numbers.{both, and-left}
+use Rattle.laws.specs.Sound.{Sound}
+use Rattle.laws.specs.Parts.{sound-frontier}
+use Rattle.laws.specs.Whole.{Whole, Holds}
 use Rattle.requests.specs.Asks.{hash-in}
+use Rattle.listed.specs.Index.{Indexed}
 use Rattle.listed.specs.Search.{length-hashes, hashes-at}
-use Rattle.plan_scan.specs.declared.Look.{Look}
-use Rattle.plan_scan.specs.declared.Look.the-variants.{PassBy, NoteRefused, Take}
-use Rattle.plan_scan.specs.Scan.{look-of}
-use Rattle.plan_scan.specs.Notes.{lesser-min, greater-max, lower-by}
-use Rattle.plan_scan.specs.Contracts.{first-open, Rewinds}
+use Rattle.plan_look.specs.declared.Look.the-variants.{PassBy, NoteRefused, Take}
+use Rattle.plan_look.specs.Scan.{look-of}
+
+-- what is asked whether it names a hash
+pub record Asked (ws staged staged-index refused refused-index : List ℕ) : Type 0 where
+  pub whole : Whole ws
+  pub rises : rising (window-of ws .queue .pending) ≡ true
+  pub stages : Indexed (length staged / 4) staged staged-index
+  pub refuses : Indexed (length refused / 4) refused refused-index
+
+-- the first of some hashes is there, and neither pending nor staged
+abbrev pub first-open : List Entry → List ℕ → List Hash → Bool
+first-open es staged [] = false
+first-open es staged (h ∷ hs) = not (is-there (found h es) || names staged h)
+
+abbrev pub Rewinds : List ℕ → List ℕ → ℕ → List ℕ → List ℕ → Type 0
+Rewinds chain staged start ws ws′ =
+    (l : Lent) → l .chain ≡ chain → l .staged ≡ staged → l .start ≡ start → Holds (maybe-rewind-request-frontier l (window-of ws)) ws′
 
 -- ---- the hash at a height of the chain
 
@@ -72,6 +87,21 @@ rewinds chain staged start ws ws′ b e h = λ l p q r.
     ∙ (λ i. ltb (r i) (w .frontier) && first-open (w .queue .pending) (q i) (drop (r i) (hashes-in (p i)))) ∙ sym e in
     subst (λ (v : Window). Holds v ws′) (sym (λ i. cond (back i) (with-frontier (r i) w) w)) h
 
+-- the frontier alone changes, and falls
+
+pub rewound-queue : (l : Lent) (w : Window) → maybe-rewind-request-frontier l w .queue ≡ w .queue
+unfolding maybe-rewind-request-frontier
+rewound-queue l w = elim (both (ltb (l .start) (w .frontier) && is-first-open l w (drop (l .start) (hashes-in (l .chain))))) [ inl q ↦ rw q refl | inr q ↦ rw q refl ]
+
+pub rewound-sound : {c : ℕ} {w : Window} (l : Lent) → Sound c w → Sound c (maybe-rewind-request-frontier l w)
+unfolding maybe-rewind-request-frontier
+rewound-sound {c} {w} l g =
+    let first = is-first-open l w (drop (l .start) (hashes-in (l .chain))) in
+    elim (both (ltb (l .start) (w .frontier) && first)) [
+      | inl q ↦ rw q (sound-frontier g (l .start) (omega (arith, g .frontier, ltb-true (l .start) (w .frontier) (and-left (ltb (l .start) (w .frontier)) first q))))
+      | inr q ↦ rw q g
+    ]
+
 -- ---- a look, by its tests: o says that the hash is open, p that it is in the plan, f that it is refused
 
 module _ (x z q o : Bool) (e : o ≡ not x) where
@@ -102,15 +132,3 @@ module _ (x z q o : Bool) (e : o ≡ not x) where
 
       pub look-taken : f ≡ false → Take ≡ look-of (x || z) q
       look-taken t = sym (looks false false k (sym m ∙ t))
-
--- ---- held back twice: by what was refused before, and by what the scan met
-
-clamped : (x f m : ℕ) → greater (lesser (greater x f) m) f ≡ greater (lesser x m) f
-clamped x f m = simp (lesser-min, greater-max) (omega arith)
-
-pub held-twice : (low met : Height) (frontier next : ℕ) → held-back met frontier (held-back low frontier next) ≡ held-back (lower-by low met) frontier next
-held-twice low Unknown frontier next = refl
-held-twice Unknown (Known m) frontier next = refl
-held-twice (Known n) (Known m) frontier next =
-    let e : lesser (lesser next n) m ≡ lesser next (lesser n m) = simp lesser-min (omega arith) in
-    clamped (lesser next n) frontier m ∙ ap (λ (x : ℕ). greater x frontier) e

@@ -1,11 +1,11 @@
--- `plan_scan::put_ask` meets its contract. Assumes nothing.
+-- `plan_look::put_ask` meets its contract. Assumes nothing.
 use Prim.Native.Nat.{_+_, _-_, _*_}
 use native.Mathlib.Omega.{arith}
 use Rattle.model.specs.Hash.{hash-words}
-use Rattle.plan_scan.specs.Plan.{put-placed, set-placed}
+use Rattle.plan_look.specs.Plan.{put-placed, set-placed}
 use borrow.Author.Needs.{needs}
-use Rattle.plan_scan.proofs.put_ask.Statement.{statement}
-use Rattle.plan_scan.proofs.put_ask.Tie as tie
+use Rattle.plan_look.proofs.put_ask.Statement.{statement}
+use Rattle.plan_look.proofs.put_ask.Tie as tie
 
 mul-a : tie.Need-mul-a
 mul-a c = search needs

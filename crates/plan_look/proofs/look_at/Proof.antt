@@ -1,4 +1,4 @@
--- `plan_scan::look_at` meets its contract. Assumes nothing.
+-- `plan_look::look_at` meets its contract. Assumes nothing.
 use mathlib.Core.Bool.{_||_}
 use lib.ListN.{take}
 use Rattle.model.specs.Lists.{any}
@@ -6,9 +6,9 @@ use Rattle.model.specs.Hash.{same, hashes-in}
 use Rattle.model.specs.Records.{found, is-there}
 use Rattle.model.specs.Layout.{window-of}
 use Rattle.model.specs.Planning.{names}
-use Rattle.plan_scan.specs.Steps.{look-closed, look-listed, look-refused, look-taken}
-use Rattle.plan_scan.proofs.look_at.Statement.{statement}
-use Rattle.plan_scan.proofs.look_at.Tie as tie
+use Rattle.plan_look.specs.Steps.{look-closed, look-listed, look-refused, look-taken}
+use Rattle.plan_look.proofs.look_at.Statement.{statement}
+use Rattle.plan_look.proofs.look_at.Tie as tie
 
 is-open-requires : tie.Need-is-open-requires
 is-open-requires c κs = let p = c .before .before .before .before .before .before .before .pre .0 in (p .whole, (p .rises, p .stages))

@@ -1,6 +1,6 @@
 -- The scan as the code makes it: it looks at one height after the other, takes what is open, and stops when it has all that is wanted.
 -- Definitions, and the laws of a turn. Assumes nothing.
-use mathlib.Core.Path.{_≡_, refl, sym, ap, _∙_}
+use mathlib.Core.Path.{_≡_, refl, ap, _∙_}
 use mathlib.Core.Bool.{Bool, true, false, _||_}
 use mathlib.Core.List.{List, [], _∷_, _++_, map}
 use Prim.Native.Nat.{ℕ, _-_}
@@ -16,8 +16,8 @@ use Rattle.model.specs.declared.Hash.{Hash}
 use Rattle.model.specs.declared.Entry.{Entry}
 use Rattle.model.specs.declared.Height.{Height}
 use Rattle.model.specs.declared.Height.the-variants.{Unknown, Known}
-use Rattle.plan_scan.specs.declared.Look.{Look}
-use Rattle.plan_scan.specs.declared.Look.the-variants.{PassBy, NoteRefused, Take}
+use Rattle.plan_look.specs.declared.Look.{Look}
+use Rattle.plan_look.specs.declared.Look.the-variants.{PassBy, NoteRefused, Take}
 
 -- what it has come to: the plan, the first refused height that it met, the next height, and how many more are wanted
 pub record Scanned : Type 0 where

@@ -1,11 +1,11 @@
--- `plan_scan::maybe_rewind_request_frontier` meets its contract. Assumes nothing.
+-- `plan_look::maybe_rewind_request_frontier` meets its contract. Assumes nothing.
 use mathlib.Core.Path.{sym, _∙_}
 use mathlib.Core.Bool.{true, false}
 use Rattle.laws.specs.Whole.{holds-whole}
-use Rattle.plan_scan.specs.Steps.{rewinds}
+use Rattle.plan_look.specs.Steps.{rewinds}
 use borrow.Author.Needs.{needs}
-use Rattle.plan_scan.proofs.maybe_rewind_request_frontier.Statement.{statement}
-use Rattle.plan_scan.proofs.maybe_rewind_request_frontier.Tie as tie
+use Rattle.plan_look.proofs.maybe_rewind_request_frontier.Statement.{statement}
+use Rattle.plan_look.proofs.maybe_rewind_request_frontier.Tie as tie
 
 is-rewound-requires : tie.Need-is-rewound-requires
 is-rewound-requires c κs = search needs

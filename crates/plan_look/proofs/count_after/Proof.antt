@@ -1,10 +1,10 @@
--- `plan_scan::count_after` meets its contract. Assumes nothing.
+-- `plan_look::count_after` meets its contract. Assumes nothing.
 use mathlib.Core.Path.{sym, ap}
-use Rattle.plan_scan.specs.declared.Look.{Look}
-use Rattle.plan_scan.specs.Plan.{count-after}
+use Rattle.plan_look.specs.declared.Look.{Look}
+use Rattle.plan_look.specs.Plan.{count-after}
 use borrow.Author.Needs.{needs}
-use Rattle.plan_scan.proofs.count_after.Statement.{statement}
-use Rattle.plan_scan.proofs.count_after.Tie as tie
+use Rattle.plan_look.proofs.count_after.Statement.{statement}
+use Rattle.plan_look.proofs.count_after.Tie as tie
 
 enum-told : tie.Need-enum-told
 enum-told c = search needs

@@ -1,6 +1,6 @@
 -- The plan in its two lent lists, and one turn of the scan on them. Assumes nothing.
 use mathlib.Core.Path.{_≡_, refl, sym, ap, subst, _∙_}
-use mathlib.Core.Bool.{Bool, true, false, cond, _||_}
+use mathlib.Core.Bool.{Bool, cond, _||_}
 use mathlib.Core.List.{List, [], _∷_, _++_, append-assoc}
 use Prim.Native.Nat.{ℕ, zero, suc, _+_, _*_, _-_, _≤_, _<_}
 use native.Mathlib.Omega.{arith}
@@ -9,20 +9,18 @@ use lib.Seq.{take-at, drop-append-add, drop-drop, set-split, length-take-le}
 use lib.Dec.{eqb, eqb·suc-zero}
 use borrow.Author.Tests.{eq-eqb, ne-eqb}
 use Rattle.model.specs.Numbers.{greater, next-height}
-use Rattle.model.specs.Lists.{any}
-use Rattle.model.specs.Hash.{same, hash-words, hashes-in}
-use Rattle.model.specs.Records.{found, is-there}
+use Rattle.model.specs.Hash.{hash-words, hashes-in}
 use Rattle.model.specs.Calls.{Ask}
-use Rattle.model.specs.Planning.{ask, names, ask-hashes, ask-heights, written}
+use Rattle.model.specs.Planning.{names, ask-hashes, ask-heights, written}
 use Rattle.model.specs.declared.Hash.{Hash}
 use Rattle.model.specs.declared.Entry.{Entry}
 use Rattle.model.specs.declared.Height.{Height}
 use Rattle.model.specs.declared.Height.the-variants.{Unknown, Known}
 use Rattle.listed.specs.Index.{Indexed}
 use Rattle.listed.specs.Laws.{alike-taken, indexed-alike}
-use Rattle.plan_scan.specs.declared.Look.{Look}
-use Rattle.plan_scan.specs.declared.Look.the-variants.{PassBy, NoteRefused, Take}
-use Rattle.plan_scan.specs.Scan.{Scanned, plan-hashes, passes, look-of, first-of, look, looked}
+use Rattle.plan_look.specs.declared.Look.{Look}
+use Rattle.plan_look.specs.declared.Look.the-variants.{PassBy, NoteRefused, Take}
+use Rattle.plan_look.specs.Scan.{Scanned, plan-hashes, passes, look-of, first-of, look, looked}
 
 -- ---- words in a list
 
@@ -115,10 +113,10 @@ first-after PassBy first height = first
 first-after NoteRefused first height = cond (eqb first 0) (height + 1) first
 first-after Take first height = first
 
-abbrev pub next-after : Look → ℕ → ℕ → ℕ
-next-after PassBy next height = next
-next-after NoteRefused next height = next
-next-after Take next height = greater next (next-height height)
+abbrev pub next-past : Look → ℕ → ℕ → ℕ
+next-past PassBy next height = next
+next-past NoteRefused next height = next
+next-past Take next height = greater next (next-height height)
 
 abbrev pub words-after : Look → ℕ → List ℕ → List ℕ → List ℕ
 words-after PassBy i v l = l
@@ -156,7 +154,7 @@ first-step first height (Known m) e = (λ i. cond (eqb (e i) 0) (height + 1) (e 
 module _ (s : Scanned) (hs₀ ts₀ : List ℕ) (full n first next : ℕ) (hs ts : List ℕ) (d : Drawn s hs₀ ts₀ full n first next hs ts) (a : Ask) where
   -- of a height at which it did k
   drawn-by : (k : Look) → (s .left ≡ 0 → ⊥)
-      → Drawn (looked k a s) hs₀ ts₀ full (count-after k n) (first-after k first (a .height)) (next-after k next (a .height)) (words-after k (4 * n) (hash-words (a .hash)) hs) (words-after k n (a .height ∷ []) ts)
+      → Drawn (looked k a s) hs₀ ts₀ full (count-after k n) (first-after k first (a .height)) (next-past k next (a .height)) (words-after k (4 * n) (hash-words (a .hash)) hs) (words-after k n (a .height ∷ []) ts)
   drawn-by PassBy z = d
   drawn-by NoteRefused z =
       record { count = d .count; room = d .room; first = first-step first (a .height) (s .first) (d .first); next = d .next; hashes = d .hashes; heights = d .heights }
@@ -183,7 +181,7 @@ module _ (s : Scanned) (hs₀ ts₀ : List ℕ) (full n first next : ℕ) (hs ts
         e ∙ (λ i. look-of (sym (ne-eqb (s .left) 0 still) i || passes es staged (named i) a) (names refused (a .hash)))
 
     pub drawn-turn : (n′ first′ next′ : ℕ) (hs′ ts′ : List ℕ) → k ≡ look-of (passes es staged (take n (hashes-in hs)) a) (names refused (a .hash))
-        → n′ ≡ count-after k n → first′ ≡ first-after k first (a .height) → next′ ≡ next-after k next (a .height)
+        → n′ ≡ count-after k n → first′ ≡ first-after k first (a .height) → next′ ≡ next-past k next (a .height)
         → hs′ ≡ words-after k (4 * n) (hash-words (a .hash)) hs → ts′ ≡ words-after k n (a .height ∷ []) ts
         → Drawn (looked (look es staged refused a s) a s) hs₀ ts₀ full n′ first′ next′ hs′ ts′
     drawn-turn n′ first′ next′ hs′ ts′ e en ef ex eh et =

@@ -1,13 +1,12 @@
--- `plan_scan::take_at` meets its contract. Assumes nothing.
+-- `plan_look::take_at` meets its contract. Assumes nothing.
 use mathlib.Core.Path.{refl, sym, subst}
-use Prim.Native.Nat.{_*_}
 use native.Mathlib.Omega.{arith}
 use Rattle.model.specs.Hash.{hash-words}
-use Rattle.plan_scan.specs.declared.Look.{Look}
-use Rattle.plan_scan.specs.Plan.{indexed-placed, TakenAt}
+use Rattle.plan_look.specs.declared.Look.{Look}
+use Rattle.plan_look.specs.Plan.{indexed-placed, TakenAt}
 use borrow.Author.Needs.{needs}
-use Rattle.plan_scan.proofs.take_at.Statement.{statement}
-use Rattle.plan_scan.proofs.take_at.Tie as tie
+use Rattle.plan_look.proofs.take_at.Statement.{statement}
+use Rattle.plan_look.proofs.take_at.Tie as tie
 
 enum-told : tie.Need-enum-told
 enum-told c = search needs

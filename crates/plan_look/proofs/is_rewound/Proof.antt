@@ -1,9 +1,9 @@
--- `plan_scan::is_rewound` meets its contract. Assumes nothing.
+-- `plan_look::is_rewound` meets its contract. Assumes nothing.
 use Rattle.model.specs.Layout.{window-of}
-use Rattle.plan_scan.specs.Steps.{back-below, back-none, back-open}
+use Rattle.plan_look.specs.Steps.{back-below, back-none, back-open}
 use borrow.Author.Needs.{needs}
-use Rattle.plan_scan.proofs.is_rewound.Statement.{statement}
-use Rattle.plan_scan.proofs.is_rewound.Tie as tie
+use Rattle.plan_look.proofs.is_rewound.Statement.{statement}
+use Rattle.plan_look.proofs.is_rewound.Tie as tie
 
 get-frontier-requires : tie.Need-get-frontier-requires
 get-frontier-requires c κs = search needs
