@@ -29,11 +29,13 @@ compile_error!("libkofudile.a is for x86-64");
 mod calls;
 pub mod ffi;
 mod getdata;
+mod planning;
 mod queries;
 mod types;
 
 pub use calls::DownloadWindow;
 pub use getdata::{GETDATA_HASHES, read_getdata, write_getdata, write_request};
+pub use planning::{Chain, PeerRequest, Stager};
 pub use types::{
     BlameReason, BlockedContext, BlockedDecision, Entry, Hash256, Headroom, OwnedFetch, PrefixProbePlan, Reason, Refusal,
     RejectDelivery, Release, Result, Seat, Staged, SyncBudget, default_sync_budget, fast_sync_budget,
