@@ -33,6 +33,7 @@
  *   retain_owned_by 21 to 27, a request of many entries 9, everything else under 5), and no call recurses.
  *   A request's list is looked through for hashes listed twice before its length is: one that is too long is refused in a time that grows with the square
  *   of its length (64,000 hashes: 2.6 s). A host whose lists come from elsewhere holds them to KOFUDILE_PLACES first.
+ *   A plan's time grows with the staged and refused lists, not with the chain: of that only the heights that are looked at are read.
  *
  * CLOCKS, AND SAVING A WINDOW
  *   The words hold the last accepted clock, and nothing but an opening sets it back. A clock far ahead, accepted once, stays: every call and query that takes an
@@ -286,7 +287,7 @@ KOFUDILE_API kofudile_number kofudile_mark_owned_fetch(uint64_t *words, size_t w
  *                               chain's from the frontier up. Neither pending, staged nor refused ones; no hash twice; none under floor.
  *   chain, tip                  the hashes from height 0 to tip, so chain_len is tip + 1. Only the heights that are looked at are read.
  *   start, best, floor          the least height that is wanted; the greatest that the peer has; the least that it serves. A frontier above start falls to
- *                               it where the block there is neither pending nor staged.
+ *                               start where the block there is neither pending nor staged.
  *   staged, refused             hashes of the staged blocks; hashes that this peer is not to be asked for. The lowest of these holds next_height back.
  *   exhausted                   staged bytes reach their limit: then there is no plan, and nothing is swept.
  *   byte_headroom, count_headroom   those of AFTER the sweep: kofudile_staged_headrooms finds them on a copy. Do not sweep the words first and then plan: the

@@ -2,7 +2,8 @@
 //!
 //! [`DownloadWindow`] has the methods of the pending side of `DownloadWindow` of gosuda/bitcoin-rs, by the same names, over a library whose
 //! every function is proved to do what its definition says. README.md in this folder says, method by method, how a host of the original changes over.
-//! [`write_request`] and [`read_getdata`] are the message that a request is sent by.
+//! [`DownloadWindow::next_peer_request`] plans what to ask of a peer next; [`write_request`] and [`read_getdata`] are the message that a request is
+//! sent by.
 //!
 //! ```
 //! use kofudile::{DownloadWindow, Hash256, Headroom, default_sync_budget};
