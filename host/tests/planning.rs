@@ -179,10 +179,12 @@ fn the_window_is_swept_once() {
 
 #[test]
 fn without_staged_blocks_there_is_no_limit() {
-    let (window, _) = four(budget());
+    let (mut window, now) = four(budget());
     assert_eq!(window.headroom(&Stager::EMPTY, 9), Headroom::UNLIMITED);
     assert_eq!(window.headroom(&staged(&[], 3 * MEAN), 1), Headroom { bytes: 56 * MEAN, blocks: usize::MAX });
     assert_eq!(window.headroom(&staged(&blocks([9]), 0), 1), Headroom { bytes: usize::MAX, blocks: 10 });
+    assert_eq!(plan(&mut window, &staged(&blocks(20..30), 0), now, &[]).unwrap().len(), 2);
+    assert_eq!(plan(&mut window, &staged(&[], 57 * MEAN), now, &[]).unwrap().len(), 3);
 }
 
 #[test]
