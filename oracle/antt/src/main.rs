@@ -24,6 +24,9 @@ const SEQUENCES_A_SAMPLE: usize = 20;
 const DIRECTED: usize = 100_000;
 const DIRECTED_PLANS: usize = 200_000;
 
+/// Entries swept by one plan.
+const MOST_SWEPT: usize = 9;
+
 /// A run of at least so many calls is made of sequences that show every event.
 const LONG_RUN: u64 = 2_000;
 
@@ -74,10 +77,19 @@ fn record(calls: u64, seed: u64, profile: Profile, tally: &mut Tally) -> Vec<Seq
     if calls < LONG_RUN {
         compare::run(&mut window, seed, profile, calls, each);
     } else {
-        let chosen = select::covering(&mut window, seed, profile, calls);
+        let chosen = select::covering(&mut window, seed, profile, calls, is_cheap);
         select::run(&mut window, seed, profile, &chosen, each);
     }
-    if calls < LONG_RUN { sequences } else { by_news(sequences) }
+    if calls >= LONG_RUN {
+        return by_news(sequences);
+    }
+    let cheap = |sequence: &Sequence| sequence.calls.iter().zip(&sequence.outcomes).all(|(call, outcome)| is_cheap(call, outcome));
+    sequences.into_iter().filter(cheap).collect()
+}
+
+/// The checker's time for a plan doubles with each entry that the plan sweeps: the swept ones are sorted by height.
+fn is_cheap(call: &Call, outcome: &Outcome) -> bool {
+    call.plan().is_none() || outcome.gone.len() <= MOST_SWEPT
 }
 
 /// One module for some sequences, so that a difference names its file and its theorem; then one for each call by words. With them a line

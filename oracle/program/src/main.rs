@@ -102,7 +102,7 @@ fn drive(options: &Options, mut each: impl FnMut(Option<&Outcome>, &Call, &Outco
         let sequences = compare::run(&mut window, options.seed, options.profile, options.calls, each);
         return (options.calls, sequences);
     }
-    let chosen = select::covering(&mut window, options.seed, options.profile, options.calls);
+    let chosen = select::covering(&mut window, options.seed, options.profile, options.calls, |_, _| true);
     let mut calls = 0;
     select::run(&mut window, options.seed, options.profile, &chosen, |before, call, outcome| {
         calls += 1;
