@@ -117,18 +117,17 @@ module _ {n : ℕ} {ws gone hs ts chain : List ℕ} {tip : ℕ} (g : Swept n ws 
             let b = subst (λ (x : Draft). Drafted x batch hs ts hs₁ ts₁ index count left lowest) (retries-are l ws n gone batch bytes) d in
             let scans : scan-says s ≡ scan-of l (t .window) batch q = e ∙ (λ i. scan-at tip start best floor batch (b .count i) (b .bytes i) (h .is i)) ∙ sym (scan-of-is l (t .window) batch q) in
             let m : Planned (request-from l t (scan-of l (t .window) batch q) q) hs ts hs₂ ts₂ r =
-                subst (λ (x : Scan). Planned (request-from l t x q) hs ts hs₂ ts₂ r) scans (p l t q hs ts (record {
-                  chain-is = refl;
-                  staged-is = refl;
-                  refused-is = refl;
-                  window = sym (h .is);
-                  count = b .count;
-                  low = sym (k ∙ b .low);
-                  hashes = b .hashes;
-                  heights = b .heights;
-                })) in
-            let leaves = from-leaves t l (scan-of l (t .window) batch q) q in
-            (
+            subst (λ (x : Scan). Planned (request-from l t x q) hs ts hs₂ ts₂ r) scans (p l t q hs ts (record {
+              chain-is = refl;
+              staged-is = refl;
+              refused-is = refl;
+              window = sym (h .is);
+              count = b .count;
+              low = sym (k ∙ b .low);
+              hashes = b .hashes;
+              heights = b .heights;
+            })) in
+            let leaves = from-leaves t l (scan-of l (t .window) batch q) q in (
               g .few,
               subst (λ (v : Window). Holds v ws₁) (sym (ap (λ (x : Step). x .window) leaves)) h,
               sym (ap (λ (x : Step). x .gone) leaves),

@@ -39,10 +39,11 @@ request-from-requires c κs =
     let x = c .before .before .before .before .before .before .before .before .before .before .before .before .before .before .before .before .before .before .before .before .expired-request-entries in
     let i = c .before .before .before .before .before .before .before .before .before .before .before .before .before .before .before .before .before .before .before .before .before .before .before .before .before .before .before .before .before .before .before .before .before .index-lists .ensures in
     let s = c .before .before .before .before .before .before .before .before .before .before .before .before .before .before .before .before .before .before .before .before .before .before .before .before .before .before .before .before .before .before .before .before .before .before .before .before .before .before .before .before .before .before .before .before .before .before .before in
-    let a = s .args in
-    (asked (s .pre .0 .0) (a .start) (a .best) (a .floor) (a .staged .now) (a .refused .now) (a .batch) (a .bytes) (s .pre .0 .1) _ (y .ensures) _ _ (i .1 .0) (i .1 .1),
-    scannable (s .pre .0 .0) (a .start) (a .best) (a .floor) (a .staged .now) (a .refused .now) (a .batch) (a .bytes) (s .pre .0 .1) _ (y .ensures)
-    _ _ _ (x .result .count) (x .result .bytes) (x .result .low) (x .ensures) (z .result) (z .ensures) (x .kept .1 .1 .1 .0) (x .kept .1 .1 .1 .1 .0) (omega (arith, s .fits .tip)))
+    let a = s .args in (
+      asked (s .pre .0 .0) (a .start) (a .best) (a .floor) (a .staged .now) (a .refused .now) (a .batch) (a .bytes) (s .pre .0 .1) _ (y .ensures) _ _ (i .1 .0) (i .1 .1),
+      scannable (s .pre .0 .0) (a .start) (a .best) (a .floor) (a .staged .now) (a .refused .now) (a .batch) (a .bytes) (s .pre .0 .1) _ (y .ensures)
+          _ _ _ (x .result .count) (x .result .bytes) (x .result .low) (x .ensures) (z .result) (z .ensures) (x .kept .1 .1 .1 .0) (x .kept .1 .1 .1 .1 .0) (omega (arith, s .fits .tip)),
+    )
 
 returns : tie.Need-returns
 returns c =

@@ -1,6 +1,6 @@
 -- `planning::plan_with_few` meets its contract. Assumes nothing.
+use mathlib.Core.Path.{refl}
 use native.Mathlib.Omega.{arith}
-use borrow.Author.Needs.{needs}
 use Rattle.planning.proofs.plan_with_few.Statement.{statement}
 use Rattle.planning.proofs.plan_with_few.Tie as tie
 
@@ -11,11 +11,11 @@ pub plan-with-few-spec : {M : Type 1} → statement M
 plan-with-few-spec =
     tie.close
     (tie.spec
-    (λ c. search needs)
-    (λ c. search needs)
-    (λ c. search needs)
+    (λ c. refl)
+    (λ c. refl)
+    (λ c. refl)
     plan-with-requires
-    (λ c. search needs)
-    (λ c. search needs)
-    (λ c. search needs)
-    (λ c. search needs))
+    (λ c. c .before .before .before .before .before .before .before .before .before .plan-with .kept .0)
+    (λ c. c .before .before .before .before .before .before .before .before .before .plan-with .kept .1 .1 .1 .0)
+    (λ c. c .before .before .before .before .before .before .before .before .before .plan-with .kept .1 .1 .1 .1 .0)
+    (λ c. c .before .before .before .before .before .before .before .before .before .plan-with .ensures))

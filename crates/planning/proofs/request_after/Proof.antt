@@ -15,9 +15,11 @@ request-by-requires : tie.Need-request-by-requires
 request-by-requires c κs =
     let at = c .before .before .before .before .before .before in
     let s = at .before .before .before .before .before .before .before .before .before in
-    let a = s .args in
-    (s .pre, batch-few (a .source) (a .byte-headroom) (a .count-headroom) _ _ (window-of (a .words .now)) (s .pre .sound .settings)
-    (sym (ap batch-says (c .before .before .before .before .b .given .1)) ∙ at .compute-request-capacity .ensures))
+    let a = s .args in (
+      s .pre,
+      batch-few (a .source) (a .byte-headroom) (a .count-headroom) _ _ (window-of (a .words .now)) (s .pre .sound .settings)
+          (sym (ap batch-says (c .before .before .before .before .b .given .1)) ∙ at .compute-request-capacity .ensures),
+    )
 
 returns : tie.Need-returns
 returns c =
