@@ -38,13 +38,12 @@ impl Original {
         });
         let headroom = u64::MAX;
         let stager = BlockStager {
-            byte_headroom: headroom,
-            count_headroom: headroom,
+            headrooms: Some((headroom, headroom)),
             staged_count: 200,
             staged_hash: Some(Hash256([0; 32])),
             ..BlockStager::default()
         };
-        Self { base: Instant::now(), window, stager, tree: BlockTree { staged_height: Some(1 << 20) } }
+        Self { base: Instant::now(), window, stager, tree: BlockTree { staged_height: Some(1 << 20), ..BlockTree::default() } }
     }
 
     pub fn moment(&self, clock: u64) -> Instant {

@@ -390,8 +390,8 @@ impl Original {
             apply_side_busy: *busy,
         };
         // Any one staged hash serves: the tree is asked for its height only.
-        let staged_hashes = staged_height.iter().map(|_| Hash256([0; 32])).collect();
-        let stager = BlockStager { staged_count: *staged_count, staged_hashes, ..BlockStager::default() };
+        let staged_hash = staged_height.map(|_| Hash256([0; 32]));
+        let stager = BlockStager { staged_count: *staged_count, staged_hash, ..BlockStager::default() };
         let tree = BlockTree { staged_height: *staged_height, chain: Vec::new() };
         Answer::Decided(match self.window.observe_blocked(context, &stager, &tree, self.at(*clock)) {
             BlockedDecision::Blame { owner, reason } => Decision::Blame {

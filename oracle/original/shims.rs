@@ -130,7 +130,7 @@ pub mod bitcoin_rs_execution {
 
 pub mod p2p {
     use super::bitcoin_rs_consensus::primitives::Hash256;
-    use std::collections::BTreeSet;
+    use super::hashbrown::HashSet;
 
     /// The handed-in values of one call.
     #[derive(Default)]
@@ -139,8 +139,10 @@ pub mod p2p {
         pub headrooms: Option<(u64, u64)>,
         pub staged_count: u64,
         pub staged_bytes: u64,
-        /// For an observation one hash, of the greatest height that the tree knows, or of a missing one.
-        pub staged_hashes: BTreeSet<Hash256>,
+        /// For a plan.
+        pub staged_hashes: HashSet<Hash256>,
+        /// For an observation: of the greatest height that the tree knows, or of a missing one.
+        pub staged_hash: Option<Hash256>,
         /// The hash that an owned fetch asks about is staged.
         pub staged: bool,
         pub gate_cleared: bool,
@@ -164,7 +166,7 @@ pub mod p2p {
         }
 
         pub fn staged_hashes(&self) -> impl Iterator<Item = Hash256> + '_ {
-            self.staged_hashes.iter().copied()
+            self.staged_hash.into_iter().chain(self.staged_hashes.iter().copied())
         }
 
         pub fn contains(&self, hash: &Hash256) -> bool {
@@ -242,6 +244,12 @@ pub mod hashbrown {
 
     #[derive(Clone, Debug)]
     pub struct HashSet<T>(BTreeSet<T>);
+
+    impl<T> Default for HashSet<T> {
+        fn default() -> Self {
+            Self(BTreeSet::new())
+        }
+    }
 
     impl<T: Ord> HashSet<T> {
         pub fn with_capacity(_capacity: usize) -> Self {
