@@ -121,7 +121,16 @@ pub fn next_peer_request_allowing_retry(
         (now (hashes .entry)) (now (hashes .exit)) (now (heights .entry)) (now (heights .exit))
         ⌝ }
 {
-    let k = refused_by(words, room, clock, source, chain.len(), tip, hashes.len(), heights.len());
+    let k = refused_by(
+        words,
+        room,
+        clock,
+        source,
+        chain.len(),
+        tip,
+        hashes.len(),
+        heights.len(),
+    );
     if k != 0 {
         return NextRequest::Refused(k);
     }
@@ -174,7 +183,16 @@ pub fn next_peer_request(
         (now (hashes .entry)) (now (hashes .exit)) (now (heights .entry)) (now (heights .exit))
         ⌝ }
 {
-    let k = refused_by(words, room, clock, source, chain.len(), tip, hashes.len(), heights.len());
+    let k = refused_by(
+        words,
+        room,
+        clock,
+        source,
+        chain.len(),
+        tip,
+        hashes.len(),
+        heights.len(),
+    );
     if k != 0 {
         return NextRequest::Refused(k);
     }
