@@ -94,8 +94,8 @@ module _ {M : Type 1} {𝓤 : URA M} {H : Heap 𝓤} {A : Atoms 𝓤} (W : Given
         assigns t (agg t (and-then t (load t (local-at t (fa .0) (stop t)) (look t 6 refl)) (and-then t (load t (local-at t (fj .0) (fld t refl (stop t))) (look-in t 0 (sub t 1 refl (whole t)))) (no-more t)))) (local-at t (fa .1 .0) (stop t)) (init t 3 refl (tt, (tt, (record { fits = rs .0 .0 }, tt)))) $
         move t (5 ∷ 2 ∷ []) $ borrows t (suc i) ms (xs .1) (rs .1) (bs .1) (cs .1 .1) (suc j) (suc (suc a)) (fj .1) (fa .1 .1) (
         -- [the locals after; the other parameters 1; the parameter 2; …; the slice's local 4; …; the pointer's 6; …]
-        move t (4 ∷ 5 ∷ 0 ∷ []) $ use3 W (raw (helds W (sliceTy ρ ∷ borrow-tys ms) (v, borrow-values ms (xs .1)) (cs .1))) (id⊢ 𝓤 _) $ move t (4 ∷ 5 ∷ 0 ∷ []) $ use3 W (raw (helds W (borrow-tys (m ∷ ms)) (borrow-values (m ∷ ms) xs) cs)) (id⊢ 𝓤 _) $
-        move t (2 ∷ 3 ∷ 1 ∷ []) $ use3 W (raw (helds W (slice-tys i (m ∷ ms)) (slice-values i (m ∷ ms) xs) bs)) (id⊢ 𝓤 _) $ move t (1 ∷ 0 ∷ []) $ s)
+        move t (4 ∷ 5 ∷ 0 ∷ []) $ use3 W (raw (helds W (sliceTy ρ ∷ borrow-tys ms) (v, borrow-values ms (xs .1)) (cs .1))) (id⊢ 𝓤 (helds W (sliceTy ρ ∷ borrow-tys ms) (v, borrow-values ms (xs .1)) (cs .1))) $ move t (4 ∷ 5 ∷ 0 ∷ []) $ use3 W (raw (helds W (borrow-tys (m ∷ ms)) (borrow-values (m ∷ ms) xs) cs)) (id⊢ 𝓤 (helds W (borrow-tys (m ∷ ms)) (borrow-values (m ∷ ms) xs) cs)) $
+        move t (2 ∷ 3 ∷ 1 ∷ []) $ use3 W (raw (helds W (slice-tys i (m ∷ ms)) (slice-values i (m ∷ ms) xs) bs)) (id⊢ 𝓤 (helds W (slice-tys i (m ∷ ms)) (slice-values i (m ∷ ms) xs) bs)) $ move t (1 ∷ 0 ∷ []) $ s)
 
   module _ {Γ : List (Item 𝓤)} {E : Env 𝓤 H} {os : List Operand} {vs : List Val} where
     -- the context has all their locals in it
