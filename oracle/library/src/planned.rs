@@ -110,15 +110,16 @@ fn spoiled(random: &mut Random, call: &Call, state: &State) -> Call {
     for _ in 0..1 + random.below(4) {
         let (place, other) = (random.below(lent.chain.len() as u64) as usize, random.below(lent.chain.len() as u64) as usize);
         let near = (place + 1).min(lent.chain.len() - 1);
+        let hash = lent.chain[place];
         match random.below(9) {
-            0 | 1 => lent.chain[near] = lent.chain[place],
-            2 => lent.chain[other] = lent.chain[place],
+            0 | 1 => lent.chain[near] = hash,
+            2 => lent.chain[other] = hash,
             3 => lent.chain[place] = random.maybe(&pending).unwrap_or(Hash([7; 32])),
             4 => lent.chain[place..].reverse(),
-            5 => lent.staged.extend(random.maybe(&lent.staged).or(Some(lent.chain[place])).into_iter().cycle().take(2)),
+            5 => lent.staged.extend([random.maybe(&lent.staged).unwrap_or(hash); 2]),
             6 => lent.staged.extend(&pending),
-            7 => lent.refused.extend([lent.chain[place]; 2]),
-            _ => lent.chain.fill(lent.chain[place]),
+            7 => lent.refused.extend([hash; 2]),
+            _ => lent.chain.fill(hash),
         }
     }
     call
