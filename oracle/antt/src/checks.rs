@@ -135,10 +135,9 @@ fn values(answer: &Answer) -> Vec<u64> {
         Answer::Rejected(rejection) => vec![(*rejection == Rejection::ReleasedPending).into()],
         Answer::Decided(decision) => decision_values(decision),
         Answer::Planned(plan) => plan.iter().flat_map(plan_values).collect(),
-        Answer::Proposed(request) => request
-            .iter()
-            .flat_map(|request| [request.entries.len() as u64, request.next_request_height.into()])
-            .collect(),
+        Answer::Proposed(request) => {
+            request.iter().flat_map(|request| [request.entries.len() as u64, request.next_request_height.into()]).collect()
+        }
     }
 }
 

@@ -48,7 +48,12 @@ pub fn plans(window: &mut dyn Window) -> Vec<Sequence> {
         vec![open(8), request(&[2, 3, 4]), plan(late, Lent { byte_headroom: 2 * 262_144, ..over(9) })],
         vec![open(8), request(&[2, 3, 4]), plan(late, Lent { byte_headroom: 4 * 262_144 + 262_143, ..over(9) })],
         // by count: none, then one
-        vec![open(8), request(&[2]), plan(late, Lent { count_headroom: 0, ..over(9) }), plan(late, Lent { count_headroom: 1, ..over(9) })],
+        vec![
+            open(8),
+            request(&[2]),
+            plan(late, Lent { count_headroom: 0, ..over(9) }),
+            plan(late, Lent { count_headroom: 1, ..over(9) }),
+        ],
         // rewound, and nothing is left to name: all but the start are past the best, and the start is refused
         vec![open(8), plan(6, Lent { start: 0, best: 0, refused: hashes(&[0]), ..over(9) }), Call::RequestCursor],
         // a refused one among the candidates, below and above what is taken

@@ -83,7 +83,8 @@ fn record(calls: u64, seed: u64, profile: Profile, tally: &mut Tally) -> Vec<Seq
     if calls >= LONG_RUN {
         return by_news(sequences);
     }
-    let cheap = |sequence: &Sequence| sequence.calls.iter().zip(&sequence.outcomes).all(|(call, outcome)| is_cheap(call, outcome));
+    let cheap =
+        |sequence: &Sequence| sequence.calls.iter().zip(&sequence.outcomes).all(|(call, outcome)| is_cheap(call, outcome));
     sequences.into_iter().filter(cheap).collect()
 }
 

@@ -26,7 +26,13 @@ struct Sequence {
 /// The chosen sequences' numbers: first those that show the most new events a call, until none is
 /// missing, then others in order, up to about `calls` calls. A sequence with a call that does not fit
 /// is left out.
-pub fn covering(window: &mut dyn Window, seed: u64, profile: Profile, calls: u64, fits: fn(&Call, &Outcome) -> bool) -> BTreeSet<u64> {
+pub fn covering(
+    window: &mut dyn Window,
+    seed: u64,
+    profile: Profile,
+    calls: u64,
+    fits: fn(&Call, &Outcome) -> bool,
+) -> BTreeSet<u64> {
     let sequences = sequences(window, seed, profile, fits);
     let mut chosen = BTreeSet::new();
     let mut shown: Events = Vec::new();

@@ -1,7 +1,6 @@
 //! Lent memory, and the library's functions called on it. Beside the words and the report lie guards that no call may touch.
 
 use crate::ffi::*;
-use crate::ffi_planning::{NextRequest, planning};
 use calls::{Answer, BlameReason, Decision, OwnedFetch, Rejection};
 use layout::hash_words;
 use raw::{Call, Room};
@@ -166,36 +165,44 @@ impl Lent {
         }
     }
 
+    #[cfg(not(planning))]
+    fn next_peer_request(&mut self, _: u64, _: u64, _: &raw::Lent, _: Room, _: bool) -> Said {
+        Said::Malformed("the library does not plan".to_string())
+    }
+
+    #[cfg(planning)]
     fn next_peer_request(&mut self, clock: u64, source: u64, lent: &raw::Lent, room: Room, allowing_retry: bool) -> Said {
-        let Some(function) = planning(allowing_retry) else {
-            return Said::Malformed("the library does not plan".to_string());
-        };
         let (w, n, r, m) = self.lent();
         let mut planned = Planned::new(room);
+        let (hashes, heights) = (planned.hashes[GUARDS..].as_mut_ptr(), planned.heights[GUARDS..].as_mut_ptr());
+        let (hash_words, height_places) = (room.hash_words, room.heights);
+        let raw::Lent { chain, tip, staged, refused, start, best, floor, exhausted, byte_headroom, count_headroom } = lent;
+        let function =
+            if allowing_retry { kofudile_next_peer_request_allowing_retry_words } else { kofudile_next_peer_request_words };
         let given = unsafe {
             function(
                 w,
                 n,
                 r,
                 m,
-                planned.hashes[GUARDS..].as_mut_ptr(),
-                room.hash_words,
-                planned.heights[GUARDS..].as_mut_ptr(),
-                room.heights,
+                hashes,
+                hash_words,
+                heights,
+                height_places,
                 source,
-                lent.chain.as_ptr(),
-                lent.chain.len(),
-                lent.tip,
-                lent.start,
-                lent.best,
-                lent.floor,
-                lent.staged.as_ptr(),
-                lent.staged.len(),
-                lent.refused.as_ptr(),
-                lent.refused.len(),
-                lent.exhausted,
-                lent.byte_headroom,
-                lent.count_headroom,
+                chain.as_ptr(),
+                chain.len(),
+                *tip,
+                *start,
+                *best,
+                *floor,
+                staged.as_ptr(),
+                staged.len(),
+                refused.as_ptr(),
+                refused.len(),
+                *exhausted,
+                *byte_headroom,
+                *count_headroom,
                 clock,
             )
         };
@@ -344,12 +351,14 @@ fn settings_of(settings: &calls::Settings) -> Settings {
 }
 
 /// The lists that a plan is written into, between guards.
+#[cfg_attr(not(planning), allow(dead_code))]
 struct Planned {
     hashes: Vec<u64>,
     heights: Vec<u32>,
     room: Room,
 }
 
+#[cfg_attr(not(planning), allow(dead_code))]
 impl Planned {
     fn new(room: Room) -> Self {
         let (hashes, heights) = (vec![GUARD; room.hash_words + 2 * GUARDS], vec![GUARD as u32; room.heights + 2 * GUARDS]);
@@ -489,9 +498,10 @@ fn planned(given: Plan) -> Said {
 }
 
 /// A request has entries; without one, and where it is refused, nothing of the plan is written.
+#[cfg_attr(not(planning), allow(dead_code))]
 fn proposed(given: NextRequest, planned: &Planned, source: u64) -> Said {
-    let NextRequest { refused, places, present, entries, next } = given;
-    let Some(listed) = usize::try_from(entries).ok().and_then(|count| planned.entries(count)) else {
+    let NextRequest { refused, places, present, count, next } = given;
+    let Some(listed) = usize::try_from(count).ok().and_then(|count| planned.entries(count)) else {
         return Said::Malformed(format!("{given:?}, and more was written for the plan"));
     };
     let request = || {
@@ -499,9 +509,9 @@ fn proposed(given: NextRequest, planned: &Planned, source: u64) -> Said {
         Some(calls::Request { owner: source.try_into().ok()?, entries: listed, next_request_height })
     };
     let answer = match present {
-        0 if [entries, next] == [0; 2] => Some(Answer::Proposed(None)),
-        1 if entries > 0 => request().map(|request| Answer::Proposed(Some(request))),
+        0 if [count, next] == [0; 2] => Some(Answer::Proposed(None)),
+        1 if count > 0 => request().map(|request| Answer::Proposed(Some(request))),
         _ => None,
     };
-    said(refused, &[places, present, entries, next], given, answer, places)
+    said(refused, &[places, present, count, next], given, answer, places)
 }

@@ -5,7 +5,6 @@ mod damaged;
 mod differences;
 #[allow(clippy::too_many_arguments)]
 mod ffi;
-mod ffi_planning;
 mod getdata;
 mod lent;
 mod planned;
@@ -19,8 +18,8 @@ use ::getdata::mistakes;
 use beside::{PLANNING, Result};
 use calls::{figures, tally};
 use damaged::Damaged;
-use planned::OddLists;
 use ordered::Original;
+use planned::OddLists;
 use refused::Refused;
 use std::process::ExitCode;
 use std::time::Instant;

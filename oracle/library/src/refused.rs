@@ -89,8 +89,10 @@ impl Refused {
 
     pub fn table(&self) -> Vec<String> {
         let line = |(kind, counts): (&String, &BTreeMap<u8, u64>)| {
-            let shown: Vec<String> =
-                NUMBERS.into_iter().map(|number| counts.get(&number).map_or("–".to_string(), |count| count.to_string())).collect();
+            let shown: Vec<String> = NUMBERS
+                .into_iter()
+                .map(|number| counts.get(&number).map_or("–".to_string(), |count| count.to_string()))
+                .collect();
             let sets = self.together.get(kind).map_or(0, BTreeSet::len);
             format!("| {kind} | {} | {sets} |", shown.join(" | "))
         };

@@ -212,10 +212,14 @@ fn lendings(call: &Call) -> Vec<Call> {
         })
     };
     let room = |hash_words, heights| with(&|_, room| *room = Room { hash_words, heights });
-    let mut calls: Vec<Call> = [(0, 0), (4, 0), (4, 1), (8, 0), (8, 2), (11, 2), (12, 2), (13, 2), (15, 2), (16, 2), (3, 0), (5, 0), (4, u32::MAX)]
-        .map(|(words, tip)| chain(words, tip))
-        .to_vec();
-    calls.extend([(1024, 255), (1023, 256), (1025, 257), (1020, 256), (0, 256), (1024, 0), (0, 0)].map(|(words, heights)| room(words, heights)));
+    let mut calls: Vec<Call> =
+        [(0, 0), (4, 0), (4, 1), (8, 0), (8, 2), (11, 2), (12, 2), (13, 2), (15, 2), (16, 2), (3, 0), (5, 0), (4, u32::MAX)]
+            .map(|(words, tip)| chain(words, tip))
+            .to_vec();
+    calls.extend(
+        [(1024, 255), (1023, 256), (1025, 257), (1020, 256), (0, 256), (1024, 0), (0, 0)]
+            .map(|(words, heights)| room(words, heights)),
+    );
     calls.push(with(&|lent, _| lent.staged.truncate(3)));
     calls.push(with(&|lent, _| lent.refused.push(7)));
     calls

@@ -161,7 +161,12 @@ fn effective_peer_inflight(tally: &mut Tally, state: &State) -> u64 {
 }
 
 /// `compute_request_capacity` with the two headrooms: batch and bytes.
-pub(crate) fn compute_request_capacity(tally: &mut Tally, state: &State, source: Seat, headrooms: (u64, u64)) -> Option<(u64, u64)> {
+pub(crate) fn compute_request_capacity(
+    tally: &mut Tally,
+    state: &State,
+    source: Seat,
+    headrooms: (u64, u64),
+) -> Option<(u64, u64)> {
     let (settings, (byte_headroom, count_headroom)) = (&state.settings, headrooms);
     let owned = state.pending.iter().filter(|entry| entry.owner == source).count() as u64;
     let inflight = effective_peer_inflight(tally, state);

@@ -90,7 +90,11 @@ impl Generator {
             count_headroom: u64::MAX,
             staging: None,
         };
-        if self.random.chance(50) { self.hand_in(state, &mut lent) } else { self.stage(state, swept, &mut lent) }
+        if self.random.chance(50) {
+            self.hand_in(state, &mut lent)
+        } else {
+            self.stage(state, swept, &mut lent)
+        }
         lent
     }
 
