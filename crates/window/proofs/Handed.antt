@@ -17,12 +17,12 @@ use base.Fml.{Fml, ftrue, fsep, feq, fat, froom, fdies}
 use prog.Wp.{Heap, Env, Calls, Loops}
 use ghost.Atoms.{Atoms, sem}
 use contract.Lifetimes.{Lfts}
-use types.Kit.{Given, Item, Post, Goal, ‵, raw, given, _⊛_, passes, runs, Seq, _$_, _∵_, !, qed, move, use1, use2, use3, drop, learn, split, split3, fsplit, fjoin, feqL, group, check, done}
+use types.Kit.{Given, Item, Post, Goal, ‵, raw, given, _⊛_, passes, runs, Seq, _$_, _∵_, !, qed, move, use1, use2, use3, drop, learn, split, split3, fsplit, fjoin, feqL, check, done}
 use types.Run.{Opds, look, init, stop, hop, fld, load, addr, and-then, no-more, assigns}
 use types.Part.{agg, whole, sub, look-in}
 use denote.RattleType.{RattleType, Denots, Valss, flat, owns}
 use denote.Memory.{pointee, lone}
-use denote.Ref.{RefT, name, now, ptr}
+use denote.Ref.{name, now, ptr}
 use denote.Slice.{sliceTy, sliceVal, MutSlice, finally, slice-vals}
 use denote.Signature.{typesAt}
 use denote.Exit.{yes}
