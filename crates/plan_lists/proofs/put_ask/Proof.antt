@@ -17,7 +17,7 @@ mul-heights : tie.Need-mul-heights
 mul-heights c = search needs
 
 slice-write-heights : tie.Need-slice-write-heights
-slice-write-heights c = c .before .before .before .before .before .before .before .pre .1 .1 .0
+slice-write-heights c = omega (arith, c .before .before .before .before .before .before .before .pre .1 .1 .0)
 
 add-requires : tie.Need-add-requires
 add-requires c κs =

@@ -165,7 +165,7 @@ sub-left : tie.Need-sub-left Inv-loop μ-loop
 sub-left c =
     let d = c .before .before .before .before .before .before .before .before .before .before .before .before .before .before .before .before .before .before .before in
     let a = start d .args in
-    room-left (a .batch) (d .loop .count) (d .loop .left) (a .mean) (sym (c .before .before .before .before .before .before .before .before .before .before .before .before .before .before .before .before .before .is-full .ensures) ∙ c .before .before .before .before .before .before .before .before .before .before .before .before .before .before .before .before .if1 .left) .1
+    omega (arith, room-left (a .batch) (d .loop .count) (d .loop .left) (a .mean) (sym (c .before .before .before .before .before .before .before .before .before .before .before .before .before .before .before .before .before .is-full .ensures) ∙ c .before .before .before .before .before .before .before .before .before .before .before .before .before .before .before .before .if1 .left) .1)
 
 add-count : tie.Need-add-count Inv-loop μ-loop
 add-count c =
