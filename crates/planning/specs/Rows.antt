@@ -2,17 +2,16 @@
 use mathlib.Core.Path.{_≡_, refl, sym, ap, subst, _∙_}
 use mathlib.Core.Bool.{Bool, true, false, cond, _&&_}
 use mathlib.Core.List.{List}
-use Prim.Native.Nat.{ℕ, zero, suc, _+_, _-_, _*_, _/_, _≤_, _<_}
+use Prim.Native.Nat.{ℕ, zero, suc, _-_, _/_, _≤_, _<_}
 use native.Mathlib.Omega.{arith}
-use lib.ListN.{length, drop}
+use lib.ListN.{length}
 use lib.Dec.{ltb, leb}
-use Rattle.model.specs.Numbers.{lesser, greater, max-height}
-use Rattle.model.specs.Hash.{hashes-in}
-use Rattle.model.specs.Window.{Window, Queue, Step, after, with-frontier}
-use Rattle.model.specs.Layout.{window-of, rising}
+use Rattle.model.specs.Numbers.{max-height}
+use Rattle.model.specs.Window.{Window, Step, after}
+use Rattle.model.specs.Layout.{window-of}
 use Rattle.model.specs.Races.{is-empty}
 use Rattle.model.specs.Calls.{Ask}
-use Rattle.model.specs.Planning.{Lent, Scan, Draft, Proposal, no-request, non-empty-request, held-back, is-first-open, maybe-rewind-request-frontier, is-clean, clean-contiguous-peer-request, extend-request-by-reverse-scan, expired-request-entries, swept-asks, scan-of, request-from}
+use Rattle.model.specs.Planning.{Lent, Scan, Draft, Proposal, no-request, non-empty-request, held-back, maybe-rewind-request-frontier, is-clean, clean-contiguous-peer-request, extend-request-by-reverse-scan, expired-request-entries, swept-asks, scan-of, request-from}
 use Rattle.model.specs.declared.Height.{Height}
 use Rattle.model.specs.declared.Height.the-variants.{Unknown, Known}
 use Rattle.laws.specs.Sound.{Sound}
@@ -27,7 +26,7 @@ use Rattle.plan_scan.specs.declared.Proposed as scanned
 use Rattle.plan_scan.specs.Proposes.{plannable}
 use Rattle.plan_scan.specs.Contracts.{scan-says, scan-at, scan-of-is, Plannable, Planned}
 use Rattle.plan_scan.specs.Contracts as scan
-use Rattle.planning.specs.Proposes.{lent, Proposes}
+use Rattle.planning.specs.Proposes.{lent}
 use Rattle.planning.specs.Swept.{step, Swept, Requests}
 
 -- ---- a height that may be missing, of its number

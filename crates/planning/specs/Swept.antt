@@ -1,9 +1,8 @@
 -- A request after the sweep: what the code asks and gives there, and the laws of its cases. Assumes nothing.
 use mathlib.Core.Path.{_≡_, refl, sym, ap, subst, _∙_}
-use mathlib.Core.Logic.{inl, inr}
 use mathlib.Core.Bool.{Bool, true, false, cond, _||_}
 use mathlib.Core.List.{List, []}
-use Prim.Native.Nat.{ℕ, zero, suc, _-_, _*_, _≤_, _<_}
+use Prim.Native.Nat.{ℕ, suc, _-_, _*_, _≤_}
 use native.Mathlib.Omega.{arith}
 use lib.ListN.{length}
 use lib.Dec.{eqb, ltb}
@@ -17,7 +16,7 @@ use Rattle.model.specs.Cooling.{peer-in-staller-cooldown}
 use Rattle.model.specs.LettingGo.{expire-pending}
 use Rattle.model.specs.Planning.{Lent, Proposal, no-request, request-by, request-after, next-peer-request-allowing-retry, next-peer-request, ask-hashes, ask-heights, written}
 use Rattle.model.specs.declared.Release.{Release}
-use Rattle.laws.specs.Numbers.{both, lesser-le-first, lesser-le-second}
+use Rattle.laws.specs.Numbers.{lesser-le-first, lesser-le-second}
 use Rattle.laws.specs.Every.{blocks-le}
 use Rattle.laws.specs.Sound.{Sound}
 use Rattle.laws.specs.Whole.{Whole, Holds, holds-whole}

@@ -27,7 +27,7 @@ const FEW_LINKS: usize = 1024;
 
 const FEW_WORDS: usize = FEW_LINKS * sizes::HASH_WORDS;
 
-// The links for longer lists: as many as a window's settings let blocks be staged; what a list has beyond is looked through.
+// The links for longer lists: a window's settings let no more blocks be staged (`MAX_COUNT`); what a list has beyond is looked through.
 const MANY_LINKS: usize = 65536;
 
 const FEW: usize = listed::BUCKETS + FEW_LINKS;
