@@ -36,9 +36,9 @@ pub record Indexed (n : ℕ) (list index : List ℕ) : Type 0 where
   pub heads : (b : ℕ) → b < 1024 → getD index b 0 ≡ last b list (linked n (length index))
   pub links : (i : ℕ) → i < linked n (length index) → getD index (1024 + i) 0 ≡ last (bucket (hash-at list i)) list i
 
--- no bucket has a head
-abbrev pub Cleared : List ℕ → Type 0
-Cleared index = (b : ℕ) → b < 1024 → getD index b 0 ≡ 0
+-- the first n words are 0
+abbrev pub Zeros : ℕ → List ℕ → Type 0
+Zeros n l = (k : ℕ) → k < n → getD l k 0 ≡ 0
 
 -- an index of no hash, of whatever list
 abbrev pub Empty : List ℕ → Type 0

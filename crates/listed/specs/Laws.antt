@@ -13,7 +13,7 @@ use borrow.Author.Tests.{eqb-true, eqb-false}
 use Rattle.model.specs.Hash.{hash}
 use Rattle.model.specs.declared.Hash.{Hash}
 use Rattle.laws.specs.Numbers.{both, lesser-first, lesser-second, lesser-le-first, lesser-le-second}
-use Rattle.listed.specs.Index.{hash-at, bucket, last, linked, Sized, Indexed, Cleared, Empty, Alike}
+use Rattle.listed.specs.Index.{hash-at, bucket, last, linked, Sized, Indexed, Zeros, Empty, Alike}
 
 -- ---- buckets
 
@@ -91,17 +91,13 @@ linked-le-links n size = lesser-le-second n (size - 1024)
 
 -- ---- an index of no hash
 
--- the first n words are 0
-abbrev pub Zeros : ℕ → List ℕ → Type 0
-Zeros n l = (k : ℕ) → k < n → getD l k 0 ≡ 0
-
 pub zeros-more : (n : ℕ) (l : List ℕ) → n < length l → Zeros n l → Zeros (n + 1) (set l n 0)
 zeros-more n l h z = λ k i. elim (both (eqb k n)) [
   | inl q ↦ ap (λ (j : ℕ). getD (set l n 0) j 0) (eqb-true k n q) ∙ getD-set-same l n 0 0 h
   | inr q ↦ getD-set-other l n k 0 0 (eqb-false k n q) ∙ z k (omega (arith, eqb-false k n q))
 ]
 
-pub indexed-none : (index : List ℕ) → Sized index → Cleared index → Empty index
+pub indexed-none : (index : List ℕ) → Sized index → Zeros 1024 index → Empty index
 unfolding last
 indexed-none index s c = λ list.
     let z : linked 0 (length index) ≡ 0 = linked-all 0 (length index) (omega arith) in
@@ -140,6 +136,11 @@ indexed-alike n l m index s g =
           let e = ap bucket (s i (omega arith)) in
           g .links i h ∙ ap (λ (b : ℕ). last b l i) e ∙ last-alike (bucket (hash-at m i)) i l m (upto i (omega arith));
     }
+
+-- also of the list with a word written after them
+pub indexed-set : (n k x : ℕ) (l index : List ℕ) → 4 * n ≤ k → Indexed n l index → Indexed n (set l k x) index
+indexed-set n k x l index h g =
+    indexed-alike n l (set l k x) index (alike-words n l (set l k x) (λ j i. sym (getD-set-other l k j x 0 (λ e. omega (arith, e))))) g
 
 -- ---- one hash more
 

@@ -3,12 +3,12 @@
 // follows: the place before it in its bucket, plus 1. Of a list that is longer than there are links, the rest is looked through.
 ghost use mathlib.Core.Path.{_≡_};
 ghost use mathlib.Core.Bool.{false};
-ghost use Prim.Native.Nat.{_+_, _*_, _/_, _<_, _≤_};
+ghost use Prim.Native.Nat.{_+_, _*_, _/_, _≤_};
 ghost use lib.ListN.{length, take};
 ghost use Rattle.model.specs.Lists.{any};
 ghost use Rattle.model.specs.Hash.{hash, hashes-in, same};
 ghost use Rattle.model.specs.Planning.{names};
-ghost use Rattle.listed.specs.Index.{hash-at, bucket, linked, Sized, Cleared, Empty, Indexed};
+ghost use Rattle.listed.specs.Index.{hash-at, bucket, linked, Sized, Zeros, Empty, Indexed};
 use model::Hash;
 use model::sizes::HASH_WORDS;
 
@@ -64,7 +64,7 @@ fn linked(n: usize, size: usize) -> usize
 
 fn clear_heads(index: &mut [u32])
     requires { ⌜ 1024 ≤ length (now index) ⌝ }
-    ensures { λ _. ⌜ Cleared (now (index .exit)) ⌝ }
+    ensures { λ _. ⌜ Zeros 1024 (now (index .exit)) ⌝ }
 {
     let mut b: usize = 0;
     while b < BUCKETS {
@@ -99,9 +99,9 @@ fn add_all(index: &mut [u32], list: &[u64])
     requires { ⌜ Empty (now index) ⌝ }
     ensures { λ _. ⌜ Indexed (length (now (list .entry)) / 4) (now (list .entry)) (now (index .exit)) ⌝ }
 {
-    let n = list.len() / HASH_WORDS;
+    let hashes = list.len() / HASH_WORDS;
     let mut i: usize = 0;
-    while i < n {
+    while i < hashes {
         add(index, list, i);
         i += 1;
     }

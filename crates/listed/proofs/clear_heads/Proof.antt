@@ -1,10 +1,10 @@
 -- `listed::clear_heads` meets its contract: the heads before b are 0. Assumes nothing.
 use mathlib.Core.Path.{_≡_}
-use Prim.Native.Nat.{ℕ, _-_, _<_, _≤_}
+use Prim.Native.Nat.{_-_, _≤_}
 use native.Mathlib.Omega.{arith}
-use lib.ListN.{length, getD, length-set}
-use borrow.Author.Needs.{needs}
-use Rattle.listed.specs.Laws.{Zeros, zeros-more}
+use lib.ListN.{length, length-set}
+use Rattle.listed.specs.Index.{Zeros}
+use Rattle.listed.specs.Laws.{zeros-more}
 use Rattle.listed.proofs.clear_heads.Statement.{statement}
 use Rattle.listed.proofs.clear_heads.Tie as tie
 

@@ -3,8 +3,7 @@ use mathlib.Core.Path.{_≡_, sym, ap, _∙_}
 use mathlib.Core.Bool.{false}
 use Prim.Native.Nat.{ℕ, _-_, _≤_}
 use native.Mathlib.Omega.{arith}
-use lib.ListN.{length, take}
-use borrow.Author.Needs.{needs}
+use lib.ListN.{take}
 use Rattle.model.specs.Lists.{any}
 use Rattle.model.specs.Hash.{hash, hashes-in, same}
 use Rattle.listed.specs.Search.{named-at, named-more}

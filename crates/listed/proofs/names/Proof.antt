@@ -1,9 +1,9 @@
 -- `listed::names` meets its contract. Assumes nothing.
-use mathlib.Core.Path.{_≡_, sym, ap, _∙_}
+use mathlib.Core.Path.{ap, _∙_}
 use mathlib.Core.List.{List}
 use native.Mathlib.Omega.{arith}
 use Prim.Native.Nat.{_/_}
-use lib.ListN.{length, take}
+use lib.ListN.{length}
 use lib.Seq.{take-all}
 use Rattle.model.specs.Lists.{any}
 use Rattle.model.specs.Hash.{hashes-in, same}

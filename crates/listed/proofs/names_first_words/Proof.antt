@@ -1,6 +1,6 @@
 -- `listed::names_first_words` meets its contract. Assumes nothing.
-use mathlib.Core.Path.{_≡_, sym, ap, _∙_}
-use Prim.Native.Nat.{ℕ, _≤_}
+use mathlib.Core.Path.{sym, ap, _∙_}
+use Prim.Native.Nat.{ℕ}
 use native.Mathlib.Omega.{arith}
 use lib.ListN.{length, take}
 use Rattle.model.specs.Lists.{any}
@@ -27,7 +27,7 @@ looked-through-requires c κs =
       ap (λ (m : ℕ). any (same (hash (s .a) (s .b) (s .c) (s .d))) (take m (hashes-in (s .list .now)))) (c .linked .ensures)
           ∙ sym (c .before .before .chained .ensures)
           ∙ c .before .if1 .left,
-      (omega (arith, c .linked .ensures, linked-le (s .n) (length (s .index .now))), c .before .before .before .before .before .pre .1),
+      omega (arith, c .linked .ensures, linked-le (s .n) (length (s .index .now)), c .before .before .before .before .before .pre .1),
     )
 
 returns-2 : tie.Need-returns-2
