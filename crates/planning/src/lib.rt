@@ -27,8 +27,9 @@ const FEW_LINKS: usize = 1024;
 
 const FEW_WORDS: usize = FEW_LINKS * sizes::HASH_WORDS;
 
-// The links for longer lists: a window's settings let no more blocks be staged (`MAX_COUNT`); what a list has beyond is looked through.
-const MANY_LINKS: usize = 65536;
+// The links for longer lists: thirty-two times the blocks that the Rust's own budget lets be staged. What a list has beyond is looked through. Both sizes
+// together are in the frame of every plan, so that more would cost each of them.
+const MANY_LINKS: usize = 8192;
 
 const FEW: usize = listed::BUCKETS + FEW_LINKS;
 
