@@ -3,7 +3,7 @@
 
 mod planning;
 
-use calls::generator::{Generator, Planning, Profile};
+use calls::generator::{Generator, Profile};
 use calls::{Answer, Call, Clock, Decision, Entry, Outcome, OwnedFetch, Plan, Reason, Rejection, Release, Window};
 use kofudile::{
     BlameReason, BlockedContext, BlockedDecision, DownloadWindow, Hash256, Headroom, Refusal, RejectDelivery, Staged, SyncBudget,
@@ -15,9 +15,7 @@ fn main() {
     let (calls, seed) = (arguments.next().unwrap_or(20_000), arguments.next().unwrap_or(1));
     let mut original = ordered::Original::default();
     let mut host = Host { base: Instant::now(), window: None };
-    // no plans yet
-    let profile = Profile { planning: Planning::Without, ..Profile::default() };
-    let mut generator = Generator::new(seed, profile);
+    let mut generator = Generator::new(seed, Profile::default());
     let mut last: Option<Outcome> = None;
     for number in 1..=calls {
         let call = generator.next(last.as_ref());
