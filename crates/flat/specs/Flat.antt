@@ -67,8 +67,8 @@ rejected-flat (refused n) = record { refused = n; places = 0; released = 0 }
 rejected-flat (says places values) = record { refused = 0; places = places; released = value values 0 }
 
 abbrev pub next-request-flat : Answer → FlatNextRequest
-next-request-flat (refused n) = record { refused = n; places = 0; present = 0; count = 0; next = 0 }
-next-request-flat (says places values) = record { refused = 0; places = places; present = present values; count = value values 0; next = value values 1 }
+next-request-flat (refused n) = record { refused = n; places = 0; count = 0; «next_height» = 0 }
+next-request-flat (says places values) = record { refused = 0; places = places; count = value values 0; «next_height» = value values 1 }
 
 -- the decisions of SPECIFICATION 7.16: 0 none, 1 and 2 blame an owner, 3 evicts, 4 hedges
 abbrev pub blames : List ℕ → FlatBlocked

@@ -77,9 +77,8 @@ pub struct FlatRejected {
 pub struct FlatNextRequest {
     pub refused: u64,
     pub places: u64,
-    pub present: u64,
     pub count: u64,
-    pub next: u64,
+    pub next_height: u64,
 }
 
 #[repr(C)]
@@ -291,23 +290,20 @@ pub fn of_next_request(a: NextRequest) -> FlatNextRequest
         NextRequest::Refused(n) => FlatNextRequest {
             refused: n,
             places: 0,
-            present: 0,
             count: 0,
-            next: 0,
+            next_height: 0,
         },
         NextRequest::NoRequest(n) => FlatNextRequest {
             refused: 0,
             places: n,
-            present: 0,
             count: 0,
-            next: 0,
+            next_height: 0,
         },
         NextRequest::Request(n, x, y) => FlatNextRequest {
             refused: 0,
             places: n,
-            present: 1,
             count: x,
-            next: y,
+            next_height: y,
         },
     }
 }

@@ -1,15 +1,18 @@
-// The calls that plan a request: what they are refused by, and how they answer. `PlansGo` is what they promise (specs/Plans.antt); they come with the
-// functions of `planning`.
+// The two calls that plan a request, with their refusals, in lent words. What the sweep lets go is written, nine words each, in `gone`: the public
+// call writes the lent report from it. `room` is that report's length. The plan is written in `hashes` and `heights`. Each promises `PlansGo` of the
+// change that it is (specs/Plans.antt).
 ghost use mathlib.Core.Path.{_≡_};
 ghost use mathlib.Core.Bool.{true};
-ghost use Rattle.model.specs.Refusals.{at, checking, seat-ok, window-refusal};
+ghost use lib.ListN.{length};
+ghost use Rattle.model.specs.Refusals.{at, checking, seat-ok, window-refusal, plans, plans-retry};
 ghost use Rattle.model.specs.Perform.{says};
 ghost use Rattle.model.specs.Says.{next-request-says};
 ghost use Rattle.model.specs.Window.{with-clock};
 ghost use Rattle.model.specs.Layout.{window-of};
 ghost use Rattle.laws.specs.Whole.{Whole, Holds};
 ghost use Rattle.letting_go.specs.Letting.{places};
-ghost use Rattle.plan_calls.specs.Plans.{plan-numbers};
+ghost use Rattle.planning.specs.Proposes.{lent};
+ghost use Rattle.plan_calls.specs.Plans.{plan-numbers, PlansGo};
 ghost use Rattle.plan_calls.specs.Refused.{ListsRefused, lists-refusal};
 use model::NextRequest;
 use model::limits;
@@ -86,4 +89,130 @@ pub fn places_of_next(r: NextRequest) -> usize
         NextRequest::NoRequest(n) => n as usize,
         NextRequest::Request(n, _, _) => n as usize,
     }
+}
+
+// ---- the calls
+
+// `plans-retry`
+pub fn next_peer_request_allowing_retry(
+    words: &mut [u64],
+    room: usize,
+    gone: &mut [u64],
+    hashes: &mut [u64],
+    heights: &mut [u32],
+    source: u64,
+    chain: &[u64],
+    tip: u32,
+    start: u32,
+    best: u32,
+    floor: u32,
+    staged: &[u64],
+    refused: &[u64],
+    exhausted: bool,
+    byte_headroom: u64,
+    count_headroom: u64,
+    clock: u64,
+) -> NextRequest
+    requires { ⌜ length (now gone) ≡ 2304 ⌝ }
+    ensures { λ r. ⌜
+        PlansGo (length (now (gone .entry)))
+        (plans-retry clock source (lent (now (chain .entry)) tip start best floor (now (staged .entry)) (now (refused .entry)) exhausted «byte_headroom» «count_headroom») (length (now (hashes .entry))) (length (now (heights .entry))))
+        (now (words .entry)) room (next-request-says r) (now (words .exit)) (now (gone .exit))
+        (now (hashes .entry)) (now (hashes .exit)) (now (heights .entry)) (now (heights .exit))
+        ⌝ }
+{
+    let k = refused_by(
+        words,
+        room,
+        clock,
+        source,
+        chain.len(),
+        tip,
+        hashes.len(),
+        heights.len(),
+    );
+    if k != 0 {
+        return NextRequest::Refused(k);
+    }
+    let p = planning::next_peer_request_allowing_retry(
+        words,
+        gone,
+        hashes,
+        heights,
+        source,
+        chain,
+        tip,
+        start,
+        best,
+        floor,
+        staged,
+        refused,
+        exhausted,
+        byte_headroom,
+        count_headroom,
+        clock,
+    );
+    planned_at(words, p, clock)
+}
+
+// `plans`
+pub fn next_peer_request(
+    words: &mut [u64],
+    room: usize,
+    gone: &mut [u64],
+    hashes: &mut [u64],
+    heights: &mut [u32],
+    source: u64,
+    chain: &[u64],
+    tip: u32,
+    start: u32,
+    best: u32,
+    floor: u32,
+    staged: &[u64],
+    refused: &[u64],
+    exhausted: bool,
+    byte_headroom: u64,
+    count_headroom: u64,
+    clock: u64,
+) -> NextRequest
+    requires { ⌜ length (now gone) ≡ 2304 ⌝ }
+    ensures { λ r. ⌜
+        PlansGo (length (now (gone .entry)))
+        (plans clock source (lent (now (chain .entry)) tip start best floor (now (staged .entry)) (now (refused .entry)) exhausted «byte_headroom» «count_headroom») (length (now (hashes .entry))) (length (now (heights .entry))))
+        (now (words .entry)) room (next-request-says r) (now (words .exit)) (now (gone .exit))
+        (now (hashes .entry)) (now (hashes .exit)) (now (heights .entry)) (now (heights .exit))
+        ⌝ }
+{
+    let k = refused_by(
+        words,
+        room,
+        clock,
+        source,
+        chain.len(),
+        tip,
+        hashes.len(),
+        heights.len(),
+    );
+    if k != 0 {
+        return NextRequest::Refused(k);
+    }
+    let p = planning::next_peer_request(
+        words,
+        gone,
+        hashes,
+        heights,
+        source,
+        chain,
+        tip,
+        start,
+        best,
+        floor,
+        staged,
+        refused,
+        exhausted,
+        byte_headroom,
+        count_headroom,
+        clock,
+    );
+    planned_at(words, p, clock)
 }

@@ -1,5 +1,7 @@
 //! Seeded sequences of accepted calls that steer, by the state they are shown, towards rare states.
 
+mod planning;
+
 use crate::data::*;
 use crate::random::Random;
 use crate::world::{Theme, World};
@@ -13,11 +15,21 @@ pub struct Profile {
     pub table: u64,
     /// No two hashes of a sequence have one height, so that maps without an order agree too.
     pub distinct_heights: bool,
+    pub planning: Planning,
+}
+
+/// Whether plans are among the calls.
+#[derive(Clone, Copy, Debug, PartialEq, Eq)]
+pub enum Planning {
+    Without,
+    Among,
+    /// In every sequence most calls are plans.
+    Mostly,
 }
 
 impl Default for Profile {
     fn default() -> Self {
-        Self { mean_length: 60, table: 40, distinct_heights: false }
+        Self { mean_length: 60, table: 40, distinct_heights: false, planning: Planning::Among }
     }
 }
 
@@ -52,6 +64,7 @@ enum Action {
     Fanout,
     ClearPreferred,
     Query,
+    NextRequest,
 }
 
 impl Generator {
@@ -102,11 +115,12 @@ impl Generator {
             Action::Fanout => self.fanout(state),
             Action::ClearPreferred => Call::ClearPreferredPeer,
             Action::Query => self.query(state),
+            Action::NextRequest => self.next_request(state),
         }
     }
 
     fn open(&mut self) -> Call {
-        let theme = Theme::ALL[self.sequences as usize % Theme::ALL.len()];
+        let theme = Theme::of(self.sequences, self.profile.planning);
         self.sequences += 1;
         self.world = World::new(&mut self.random, theme, &self.profile);
         let usual = 1 + self.random.below(2 * self.profile.mean_length);
@@ -118,6 +132,7 @@ impl Generator {
     fn follow_up(&mut self, last: &Outcome) -> Option<Call> {
         match &last.answer {
             Answer::Planned(Some(plan)) if self.random.chance(80) => Some(self.confirm_plan(&last.state, plan)),
+            Answer::Proposed(Some(request)) if self.random.chance(70) => Some(self.mark_planned(&last.state, request)),
             Answer::Decided(Decision::HedgeColdFront { owner, front_hash }) if self.random.chance(75) => {
                 let alternate = if self.random.chance(15) { *owner } else { self.world.other_seat(&mut self.random, *owner) };
                 Some(Call::ConfirmColdFrontHedge { owner: *owner, alternate, hash: *front_hash })
@@ -139,7 +154,7 @@ impl Generator {
     }
 
     /// Weights by theme, raised where the state is on its way to something rare.
-    fn weights(&self, state: &State) -> [(Action, u64); 19] {
+    fn weights(&self, state: &State) -> [(Action, u64); 20] {
         let theme = self.world.theme;
         let pending = state.pending.len() as u64;
         let probe = state.prefix_probe.is_some();
@@ -151,6 +166,7 @@ impl Generator {
         let races = theme == Theme::Races;
         let can_plan = races && state.preferred_peer.is_none() && !probe && pending >= 4;
         let fanout = theme == Theme::Capacity || probe || (races && state.fanout_engaged);
+        let plans = when(theme == Theme::Plans, 90, when(pending == 0, 14, when(pending < 2 * self.world.table, 7, 2)));
         [
             (Action::Request, when(pending == 0, 40, when(pending < self.world.table, 14, 1))),
             (Action::OwnedFetch, 5),
@@ -171,6 +187,7 @@ impl Generator {
             (Action::Fanout, when(fanout, 6, 2)),
             (Action::ClearPreferred, when(state.preferred_peer.is_some(), 6, 1)),
             (Action::Query, when(theme == Theme::Capacity, 25, when(racing, 12, 9))),
+            (Action::NextRequest, when(self.profile.planning == Planning::Without, 0, plans)),
         ]
     }
 

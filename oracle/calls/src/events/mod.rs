@@ -5,6 +5,7 @@
 
 mod deliveries;
 mod letting_go;
+mod planning;
 mod queries;
 mod races;
 mod requests;
@@ -15,6 +16,8 @@ use crate::tally::Tally;
 
 /// One call with its surroundings.
 pub(crate) struct Seen<'a> {
+    /// What the call before answered.
+    pub last: &'a Answer,
     pub before: &'a State,
     pub call: &'a Call,
     pub answer: &'a Answer,
@@ -33,7 +36,14 @@ pub fn count(tally: &mut Tally, before: Option<&Outcome>, call: &Call, outcome: 
     let Some(before) = before else {
         return;
     };
-    let seen = Seen { before: &before.state, call, answer: &outcome.answer, gone: &outcome.gone, after: &outcome.state };
+    let seen = Seen {
+        last: &before.answer,
+        before: &before.state,
+        call,
+        answer: &outcome.answer,
+        gone: &outcome.gone,
+        after: &outcome.state,
+    };
     everywhere(tally, &seen);
     requests::count(tally, &seen);
     deliveries::count(tally, &seen);
@@ -41,6 +51,7 @@ pub fn count(tally: &mut Tally, before: Option<&Outcome>, call: &Call, outcome: 
     races::count(tally, &seen);
     watching::count(tally, &seen);
     queries::count(tally, &seen);
+    planning::count(tally, &seen);
 }
 
 fn opening(tally: &mut Tally, before: Option<&Outcome>, clock: Clock, settings: &Settings, keys: &[u8]) {
