@@ -15,6 +15,7 @@ use Rattle.model.specs.declared.Source.the-variants.{From}
 use Rattle.model.specs.declared.Sought.the-variants.{Exactly}
 use Rattle.observation.specs.Look.{look}
 use Rattle.letting_go.specs.Letting.{places}
+use Rattle.planning.specs.Proposes.{lent}
 use Rattle.report_words.specs.Report.{releases-of}
 use Rattle.lend.specs.Blank.{none-filled}
 use Rattle.lend.specs.Cases.{pick}
@@ -194,18 +195,7 @@ making s p hashes heights = making-by s p hashes heights (s .call)
 -- `first` is the height at which requests start, `count` how many blocks there is room for, `other` the tip, which every peer has. So many words of the chain are lent; nothing
 -- is refused by the node.
 abbrev pub lent-at : Step → List ℕ → ℕ → ℕ → List ℕ → Lent
-lent-at s staged tip n words = record {
-  chain = take n words;
-  tip = tip;
-  staged = staged;
-  refused = [];
-  start = s .first;
-  best = tip;
-  floor = 0;
-  exhausted = false;
-  bytes = room;
-  count = s .count;
-}
+lent-at s staged tip n words = lent (take n words) tip (s .first) tip 0 staged [] false room (s .count)
 
 abbrev pub lent-by : Step → List ℕ → Lent
 lent-by s staged = let tip = height-of (s .other) in lent-at s staged tip (words-to tip) (chain 64)

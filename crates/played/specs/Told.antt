@@ -31,6 +31,7 @@ use Rattle.model.specs.declared.NextRequest.the-variants as next-request
 use Rattle.model.specs.declared.Number.{Number}
 use Rattle.model.specs.declared.Number.the-variants as number
 use Rattle.letting_go.specs.Letting.{places}
+use Rattle.report_words.specs.Report.{releases-of}
 use Rattle.lend.specs.Blank.{none-filled}
 use Rattle.lend.specs.Cases.{Missed, picks-other, picks-such}
 use Rattle.lend.specs.Goes.{Goes, Leaves, Quiet, quiet-change, quiet-opening, quiet-goes}
@@ -180,7 +181,7 @@ module _ (s : Step) (p : Plan) (hashes heights : List ℕ) where
 
 -- ---- all calls but one plan nothing, and leave the lists as they are
 
-Planless : Call → Type 0
+abbrev Planless : Call → Type 0
 Planless call = (w : Window) → does call w .plan ≡ []
 
 nothing-planned : (call : Call) → Planless call → (n : ℕ) (ws : List ℕ) → plan-by n call ws ≡ []
@@ -232,6 +233,23 @@ turns-making s k b ws ws′ said book h e =
       heights-as-lent (k .heights) ∙ (λ i. written (ask-heights (sym none i)) (k .heights)),
       refl,
     )
+
+-- what a call that plans promises
+abbrev pub Plans : Call → List ℕ → List ℕ → List ℕ → List ℕ → List ℕ → List ℕ → Answer → ℕ → List ℕ → Type 0
+Plans call ws ws′ hashes hashes′ heights heights′ a n gone =
+    (a ≡ perform call ws none-filled .answer)
+    × (ws′ ≡ perform call ws none-filled .words)
+    × (releases-of 256 gone ≡ perform call ws none-filled .report)
+    × (hashes′ ≡ written (ask-hashes (perform call ws none-filled .plan)) hashes)
+    × (heights′ ≡ written (ask-heights (perform call ws none-filled .plan)) heights)
+    × (n ≡ places a)
+
+pub turns-proposing : (t : Play) (q : Call) → t .call ≡ q → (k : Kept) (b : Book) (ws ws′ hashes′ heights′ : List ℕ) (a : Answer) (n : ℕ) (gone : List ℕ) (said : Said) (book : Book) (plan : Plan)
+    → Plans q ws ws′ (k .hashes) hashes′ (k .heights) heights′ a n gone → said ≡ t .said a gone → book ≡ let-go b gone n → t .blocks a ≡ 0
+    → plan ≡ planned-by a heights′ → Turns t planned-by k b ws ws′ hashes′ heights′ (record { said = said; book = book; plan = plan })
+turns-proposing t q e k b ws ws′ hashes′ heights′ a n gone said book plan h s o z p =
+    let g = subst (λ (x : Call). Plans x ws ws′ (k .hashes) hashes′ (k .heights) heights′ a n gone) (sym e) h in
+    (plays-letting t b ws ws′ a n gone said book (g .0, g .1, g .2, g .5) s o z, g .3, g .4, p ∙ ap (λ (y : Answer). planned-by y heights′) (g .0))
 
 pub turns-planning : (s : Step) (k : Kept) (b : Book) (ws ws′ hashes′ heights′ : List ℕ) (r : Turn)
     → eqb (s .call) 15 ≡ true → TurnsIf true s k b ws ws′ hashes′ heights′ r → TurnsBy s k b ws ws′ hashes′ heights′ r

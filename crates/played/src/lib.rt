@@ -226,7 +226,7 @@ fn propose(words: &mut [u64], hashes: &mut [u64], heights: &mut [u32], staged: &
         tip,
         0,
         staged,
-        &chain[..0],
+        &staged[..0],
         false,
         ROOM,
         s.count as u64,
@@ -252,9 +252,11 @@ pub fn act(words: &mut [u64], hashes: &mut [u64], heights: &mut [u32], staged: &
         return propose(words, hashes, heights, staged, b, p, s);
     }
     let d = make(words, hashes, heights, b, p, s);
+    let said = d.said;
+    let book = d.book;
     Turn {
-        said: d.said,
-        book: d.book,
+        said,
+        book,
         plan: p,
     }
 }
