@@ -1,11 +1,11 @@
--- `script::at_most_eight` meets its contract. Assumes nothing.
+-- `script::at_most` meets its contract. Assumes nothing.
 use mathlib.Core.Path.{refl}
 use native.Mathlib.Omega.{arith}
 use borrow.Author.Tests.{le-leb, lt-leb}
 use Rattle.model.specs.Numbers.{lesser}
 use borrow.Author.Needs.{needs}
-use Rattle.script.proofs.at_most_eight.Statement.{statement}
-use Rattle.script.proofs.at_most_eight.Tie as tie
+use Rattle.script.proofs.at_most.Statement.{statement}
+use Rattle.script.proofs.at_most.Tie as tie
 
 returns : tie.Need-returns
 unfolding lesser
@@ -15,5 +15,5 @@ returns-2 : tie.Need-returns-2
 unfolding lesser
 returns-2 c = (rw (lt-leb _ _ (c .if1 .left)) refl, omega arith)
 
-pub at-most-eight-spec : {M : Type 1} → statement M
-at-most-eight-spec = tie.close (tie.spec returns returns-2)
+pub at-most-spec : {M : Type 1} → statement M
+at-most-spec = tie.close (tie.spec returns returns-2)
