@@ -41,14 +41,18 @@ fn turn(
 ) -> Host {
     if script::is_call(line) {
         let s = script::step_of(line);
+        let b = h.book;
+        let last = h.plan;
         let n = script::at_most(h.staged, staged.len());
-        let d = act(words, hashes, heights, &staged[..n], h.book, h.plan, s);
-        show(words, s, d.plan, d.said);
-        let m = script::stage(staged, n, s, d.said);
+        let d = act(words, hashes, heights, &staged[..n], b, last, s);
+        let said = d.said;
+        let book = d.book;
+        let plan = d.plan;
+        show(words, s, plan, said);
         return Host {
-            book: d.book,
-            plan: d.plan,
-            staged: m,
+            book,
+            plan,
+            staged: script::stage(staged, n, s, said),
         };
     }
     put(line);
@@ -78,7 +82,7 @@ fn play(
 // 12 confirm_prefix_probe, 13 set_fanout_eligible_peers, 14 clear_preferred_peer, 15 next_peer_request); tenths of a second; the peer; the first block and how many; and one
 // number more: the body's bytes, the owner of the blocks, how many blocks are staged, or how many peers there are. What a call does not have is left blank. 15 plans a request
 // from the first block on, with room for so many, up to the tip, its last number; 1 marks what was planned last.
-const SCRIPT: [u8; 3123] =
+const SCRIPT: [u8; 3150] =
     *b"A node catches up from block 1 through twelve peers. One line a call: the call,
 the first and the last block that it is about, its answer, and what is pending
 after it. Peers are asked for what was planned.
@@ -183,13 +187,14 @@ Block 22 came by another way, and blocks below 14 are no longer wanted.
 :  3    84   7 15 1 290000
 
 Half an hour later those who never answered have timed out: peer 11 gets no
-plan. The plan for peer 2 sweeps their blocks, and asks for them again.
+plan. The plan for peer 2 sweeps their seven blocks, and asks for them again,
+with one block more.
 : 15 18000  11 14 8     40
 : 15 18000   2 14 8     40
 :  1 18001   2
 ";
 
-fn script_text() -> [u8; 3123] {
+fn script_text() -> [u8; 3150] {
     SCRIPT
 }
 
@@ -285,6 +290,7 @@ fn main() {
         plan,
         staged: 0,
     };
-    let e = play(&mut words, &mut hashes, &mut heights, &mut staged, h, &text);
-    close(&words, e.book);
+    let end = play(&mut words, &mut hashes, &mut heights, &mut staged, h, &text);
+    let b = end.book;
+    close(&words, b);
 }

@@ -226,8 +226,7 @@ pub turns-making : (s : Step) (k : Kept) (b : Book) (ws ws′ : List ℕ) (said 
     → eqb (s .call) 15 ≡ false → TurnsBy s k b ws ws′ (k .hashes) (k .heights) (record { said = said; book = book; plan = k .plan })
 turns-making s k b ws ws′ said book h e =
     let none = planless _ (planless-making s (k .plan) (k .hashes) (k .heights)) ws in
-    subst (λ (x : Bool). TurnsIf x s k b ws ws′ (k .hashes) (k .heights) (record { said = said; book = book; plan = k .plan })) (sym e)
-    (
+    subst (λ (x : Bool). TurnsIf x s k b ws ws′ (k .hashes) (k .heights) (record { said = said; book = book; plan = k .plan })) (sym e) (
       h,
       hashes-as-lent (k .hashes) ∙ (λ i. written (ask-hashes (sym none i)) (k .hashes)),
       heights-as-lent (k .heights) ∙ (λ i. written (ask-heights (sym none i)) (k .heights)),

@@ -206,7 +206,15 @@ fn make(words: &mut [u64], hashes: &[u64], heights: &[u32], b: Book, p: Plan, s:
 }
 
 // The next request of the peer is planned, up to the tip `other`, with room for `count` blocks. Every peer has the tip and all below it; the node refuses no block.
-fn propose(words: &mut [u64], hashes: &mut [u64], heights: &mut [u32], staged: &[u64], b: Book, p: Plan, s: Step) -> Turn
+fn propose(
+    words: &mut [u64],
+    hashes: &mut [u64],
+    heights: &mut [u32],
+    staged: &[u64],
+    b: Book,
+    p: Plan,
+    s: Step,
+) -> Turn
     ensures { λ r. ⌜
         Turns (planning s (now (staged .entry)) (length (now (hashes .entry))) (length (now (heights .entry)))) planned-by (kept p (now (hashes .entry)) (now (heights .entry)) (now (staged .entry))) b
         (now (words .entry)) (now (words .exit)) (now (hashes .exit)) (now (heights .exit)) r
@@ -242,7 +250,15 @@ fn propose(words: &mut [u64], hashes: &mut [u64], heights: &mut [u32], staged: &
 }
 
 // One call of the script.
-pub fn act(words: &mut [u64], hashes: &mut [u64], heights: &mut [u32], staged: &[u64], b: Book, p: Plan, s: Step) -> Turn
+pub fn act(
+    words: &mut [u64],
+    hashes: &mut [u64],
+    heights: &mut [u32],
+    staged: &[u64],
+    b: Book,
+    p: Plan,
+    s: Step,
+) -> Turn
     ensures { λ r. ⌜
         TurnsBy s (kept p (now (hashes .entry)) (now (heights .entry)) (now (staged .entry))) b (now (words .entry)) (now (words .exit)) (now (hashes .exit)) (now (heights .exit)) r
         ⌝ }

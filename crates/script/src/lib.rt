@@ -399,7 +399,14 @@ fn after_of(pending: Number, bytes: Number, share: Number) -> After
 }
 
 // A call, its answer, and what the window says after it.
-pub fn row_of(s: Step, p: Plan, said: Said, pending: Number, bytes: Number, share: Number) -> [u8; 81]
+pub fn row_of(
+    s: Step,
+    p: Plan,
+    said: Said,
+    pending: Number,
+    bytes: Number,
+    share: Number,
+) -> [u8; 81]
     ensures { λ r. ⌜ r ≡ row (call-of s p) said (after-of pending bytes share) ⌝ }
 {
     let c = call_of(s, p);

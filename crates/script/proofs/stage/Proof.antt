@@ -28,14 +28,14 @@ returns : tie.Need-returns
 returns c =
     let a = c .before .before .before .before .before .args in
     let q : stages (a .s) (a .said) (a .n) (a .staged .now) ≡ true =
-        (λ i. sym (c .before .before .before .came .ensures) i && sym (c .before .before .fits-behind .ensures) i) ∙ c .before .if1 .taken in
+    (λ i. sym (c .before .before .before .came .ensures) i && sym (c .before .before .fits-behind .ensures) i) ∙ c .before .if1 .taken in
     ((λ i. cond (sym q i) (set (a .staged .now) (a .n + 3) (a .s .first)) (a .staged .now)), (λ i. cond (sym q i) (a .n + 4) (a .n)))
 
 returns-2 : tie.Need-returns-2
 returns-2 c =
     let a = c .before .before .before .before .args in
     let q : stages (a .s) (a .said) (a .n) (a .staged .now) ≡ false =
-        (λ i. sym (c .before .before .came .ensures) i && sym (c .before .fits-behind .ensures) i) ∙ c .if1 .left in
+    (λ i. sym (c .before .before .came .ensures) i && sym (c .before .fits-behind .ensures) i) ∙ c .if1 .left in
     ((λ i. cond (sym q i) (set (a .staged .now) (a .n + 3) (a .s .first)) (a .staged .now)), (λ i. cond (sym q i) (a .n + 4) (a .n)))
 
 pub stage-spec : {M : Type 1} → statement M
