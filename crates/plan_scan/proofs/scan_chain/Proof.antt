@@ -88,7 +88,7 @@ loop-again c =
     let v = c .before .before .before .before .before .before .before .before .before .before .before .before .before .before .before .before .before .before .before .loop in
     let a = s .args in
     let t = c .before .before .before .before .before .before .before .before .before .take-at in
-    turning-step (window-of (a .words .now) .queue .pending) (a .chain .now) (a .staged .now) (a .refused .now) (a .hashes .now) (a .heights .now) (a .index .now) (a .from) (a .last) (a .count) (a .full) (a .frontier) (s .pre .1) (v .height) (v .n) (v .first) (v .next) (v .hashes) (v .heights) (v .index) (v .inv) (c .before .before .before .before .before .before .before .before .before .before .before .before .before .before .before .before .before .before .loop-test .taken) (c .before .before .before .before .before .before .before .before .before .before .before .before .before .before .before .before .before .if1 .left) _ (c .before .before .before .before .before .before .before .before .before .before .before .before .before .before .before .before .hash-in .ensures) _ (c .before .before .before .before .before .before .before .before .before .before .before .before .before .look-at .ensures)
+    turning-step (window-of (a .words .now) .queue .pending) (a .chain .now) (a .staged .now) (a .refused .now) (a .hashes .now) (a .heights .now) (a .index .now) (a .from) (a .last) (a .count) (a .full) (a .frontier) (s .pre .1) (v .height) (v .n) (v .first) (v .next) (v .hashes) (v .heights) (v .index) (v .inv) (omega (arith, c .before .before .before .before .before .before .before .before .before .before .before .before .before .before .before .before .before .before .loop-test .taken)) (c .before .before .before .before .before .before .before .before .before .before .before .before .before .before .before .before .before .if1 .left) _ (c .before .before .before .before .before .before .before .before .before .before .before .before .before .before .before .before .hash-in .ensures) _ (c .before .before .before .before .before .before .before .before .before .before .before .before .before .look-at .ensures)
     (t .last .1 .0) (t .last .1 .1 .0) (t .last .1 .1 .1 .0) (t .ensures .0) (t .ensures .1 .0) (t .ensures .1 .1) (t .kept .1 .0) (t .kept .1 .1 .0) (t .kept .1 .1 .1 .0) _ _ _ (c .before .before .count-after .ensures) (c .before .first-after .ensures) (c .next-past .ensures)
 
 same-length-4 : tie.Need-same-length-4 Inv-loop μ-loop
@@ -105,7 +105,7 @@ returns-2 c =
     let s = c .before .before .before .before .before .before .before .before .before .before .before in
     let v = c .before .loop in
     let a = s .args in
-    turning-end (window-of (a .words .now) .queue .pending) (a .chain .now) (a .staged .now) (a .refused .now) (a .hashes .now) (a .heights .now) (a .index .now) (a .from) (a .last) (a .count) (a .full) (a .frontier) (s .pre .1) (v .height) (v .n) (v .first) (v .next) (v .hashes) (v .heights) (v .index) (v .inv) (c .loop-test .left)
+    turning-end (window-of (a .words .now) .queue .pending) (a .chain .now) (a .staged .now) (a .refused .now) (a .hashes .now) (a .heights .now) (a .index .now) (a .from) (a .last) (a .count) (a .full) (a .frontier) (s .pre .1) (v .height) (v .n) (v .first) (v .next) (v .hashes) (v .heights) (v .index) (v .inv) (omega (arith, c .loop-test .left))
 
 pub scan-chain-spec : {M : Type 1} → statement M
 scan-chain-spec =
