@@ -29,11 +29,12 @@
  * Everything else is checked: any length, any words, any numbers give an answer and never undefined behaviour.
  *
  * STACK AND TIME
- *   Give a call 64 KB of stack, and one that plans 192 KB. As built it takes at most 27.2 KB (mark_received_from and credit_delivery_from; expire_pending, retire_before and
- *   retain_owned_by 21 to 27, a request of many entries 9, everything else under 5), and no call recurses.
+ *   Give a call 64 KB of stack, and one that plans 192 KB. As built a plan takes at most 104.4 KB, and any other call 27.2 KB (mark_received_from and
+ *   credit_delivery_from; expire_pending, retire_before and retain_owned_by 21 to 27, a request of many entries 9, everything else under 5). No call recurses.
  *   A request's list is looked through for hashes listed twice before its length is: one that is too long is refused in a time that grows with the square
  *   of its length (64,000 hashes: 2.6 s). A host whose lists come from elsewhere holds them to KOFUDILE_PLACES first.
- *   A plan's time grows with the staged and refused lists, not with the chain: of that only the heights that are looked at are read.
+ *   A plan's time grows with the staged and refused lists, from 8,192 hashes on with the square of their length, not with the chain: of that only the
+ *   heights that are looked at are read.
  *
  * CLOCKS, AND SAVING A WINDOW
  *   The words hold the last accepted clock, and nothing but an opening sets it back. A clock far ahead, accepted once, stays: every call and query that takes an
