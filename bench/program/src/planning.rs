@@ -64,7 +64,7 @@ pub const STAGED: [usize; 2] = [256, 4_096];
 
 /// The growth is that of one case.
 pub const GROWING: Case = BATCH_16;
-pub const GROWN_STAGED: [usize; 6] = [0, 256, 1_024, 4_096, 16_384, 65_535];
+pub const GROWN_STAGED: [usize; 6] = [0, 256, 1_024, 4_096, 8_192, 16_384];
 pub const GROWN_TIPS: [usize; 2] = [1_000, TIP];
 
 #[derive(Clone, Copy, PartialEq)]
