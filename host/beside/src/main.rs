@@ -1,7 +1,9 @@
 //! beside CALLS SEED: the oracle's calls through the original and through this crate. Answers and releases are equal, so no argument of a method is
 //! mixed up on its way. The words themselves are oracle/compare's to compare.
 
-use calls::generator::{Generator, Planning, Profile};
+mod planning;
+
+use calls::generator::{Generator, Profile};
 use calls::{Answer, Call, Clock, Decision, Entry, Outcome, OwnedFetch, Plan, Reason, Rejection, Release, Window};
 use kofudile::{
     BlameReason, BlockedContext, BlockedDecision, DownloadWindow, Hash256, Headroom, Refusal, RejectDelivery, Staged, SyncBudget,
@@ -13,9 +15,7 @@ fn main() {
     let (calls, seed) = (arguments.next().unwrap_or(20_000), arguments.next().unwrap_or(1));
     let mut original = ordered::Original::default();
     let mut host = Host { base: Instant::now(), window: None };
-    // no plans yet
-    let profile = Profile { planning: Planning::Without, ..Profile::default() };
-    let mut generator = Generator::new(seed, profile);
+    let mut generator = Generator::new(seed, Profile::default());
     let mut last: Option<Outcome> = None;
     for number in 1..=calls {
         let call = generator.next(last.as_ref());
@@ -59,6 +59,7 @@ impl Host {
         let said = self
             .change(&mut window, call)
             .or_else(|| self.let_go(&mut window, call))
+            .or_else(|| self.plan(&mut window, call))
             .unwrap_or_else(|| self.query(&window, call));
         self.window = Some(window);
         said

@@ -126,9 +126,8 @@ pub struct Plan {
 pub struct NextRequest {
     pub refused: u64,
     pub places: u64,
-    pub present: u64,
     pub count: u64,
-    pub next: u64,
+    pub next_height: u64,
 }
 
 /// A window's words and their number.

@@ -500,18 +500,18 @@ fn planned(given: Plan) -> Said {
 /// A request has entries; without one, and where it is refused, nothing of the plan is written.
 #[cfg_attr(not(planning), allow(dead_code))]
 fn proposed(given: NextRequest, planned: &Planned, source: u64) -> Said {
-    let NextRequest { refused, places, present, count, next } = given;
+    let NextRequest { refused, places, count, next_height } = given;
     let Some(listed) = usize::try_from(count).ok().and_then(|count| planned.entries(count)) else {
         return Said::Malformed(format!("{given:?}, and more was written for the plan"));
     };
     let request = || {
-        let next_request_height = next.try_into().ok()?;
+        let next_request_height = next_height.try_into().ok()?;
         Some(calls::Request { owner: source.try_into().ok()?, entries: listed, next_request_height })
     };
-    let answer = match present {
-        0 if [count, next] == [0; 2] => Some(Answer::Proposed(None)),
-        1 if count > 0 => request().map(|request| Answer::Proposed(Some(request))),
-        _ => None,
+    let answer = match count {
+        0 if next_height == 0 => Some(Answer::Proposed(None)),
+        0 => None,
+        _ => request().map(|request| Answer::Proposed(Some(request))),
     };
-    said(refused, &[places, present, count, next], given, answer, places)
+    said(refused, &[places, count, next_height], given, answer, places)
 }
