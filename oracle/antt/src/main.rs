@@ -28,8 +28,8 @@ const DIRECTED_PLANS: usize = 200_000;
 /// And of those with odd lists.
 const ODD: usize = 300_000;
 
-/// Entries swept by one plan.
-const MOST_SWEPT: usize = 9;
+/// Entries that one call sorts by height.
+const MOST_SORTED: usize = 10;
 
 /// A run of at least so many calls is made of sequences that show every event.
 const LONG_RUN: u64 = 2_000;
@@ -95,9 +95,12 @@ fn record(calls: u64, seed: u64, profile: Profile, tally: &mut Tally) -> Vec<Seq
     sequences.into_iter().filter(cheap).collect()
 }
 
-/// The checker's time for a plan doubles with each entry that the plan sweeps: the swept ones are sorted by height.
+/// The checker's time doubles with each entry that is sorted by height: those that a plan sweeps, and those that a prefix is looked for in.
 fn is_cheap(call: &Call, outcome: &Outcome) -> bool {
-    call.plan().is_none() || outcome.gone.len() <= MOST_SWEPT
+    match call {
+        Call::PrefixProbePlan => outcome.state.pending.len() <= MOST_SORTED,
+        call => call.plan().is_none() || outcome.gone.len() <= MOST_SORTED,
+    }
 }
 
 /// One module for some sequences, so that a difference names its file and its theorem; then one for each call by words. With them a line
