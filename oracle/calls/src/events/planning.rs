@@ -313,7 +313,7 @@ impl<'a> Planner<'a> {
             1..=4 => "SelectedHashes: up to four",
             _ => "SelectedHashes: more than four",
         });
-        let reach = scan.reach(scan.limit() + self.pending.len() as u64 + self.staged.len() as u64 + taken);
+        let reach = scan.reach(scan.limit() + self.pending.len() as u64 + self.lent.staged.len() as u64 + taken);
         self.tally.compare("extend_request_by_reverse_scan: reach against last height", reach, scan.last.into());
         self.tally.hit_if("extend_request_by_reverse_scan: from height 0", scan.height == 0);
         let end = reach.min(scan.last.into()) as u32;
