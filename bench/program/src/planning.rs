@@ -54,7 +54,7 @@ pub const CASES: [Case; 5] = [
     Case { row: "Plan128", name: "128 pending, batch limit 128", batch_limit: 128, open: 256, ..BATCH_16 },
     Case {
         row: "PlanPast",
-        name: "128 pending, batch limit 16, frontier past all",
+        name: "128 pending, limit 16, past all",
         frontier_past: true,
         aimed: false,
         ..BATCH_16
