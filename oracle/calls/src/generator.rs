@@ -5,6 +5,7 @@ mod planning;
 use crate::data::*;
 use crate::random::Random;
 use crate::world::{Theme, World};
+use std::collections::BTreeSet;
 
 /// What kind of run is wanted.
 #[derive(Clone, Copy, Debug)]
@@ -79,9 +80,15 @@ impl Generator {
         self.sequences
     }
 
+    /// Two entries have one height, though heights are to be distinct: a plan may ask for a height at which another hash is pending.
+    fn is_spoiled(&self, last: &Outcome) -> bool {
+        let mut heights = BTreeSet::new();
+        self.profile.distinct_heights && !last.state.pending.iter().all(|entry| heights.insert(entry.height))
+    }
+
     /// The next call, after `last` came of the one before; the first of a sequence is an opening.
     pub fn next(&mut self, last: Option<&Outcome>) -> Call {
-        let Some(last) = last.filter(|_| self.left > 0) else {
+        let Some(last) = last.filter(|last| self.left > 0 && !self.is_spoiled(last)) else {
             return self.open();
         };
         self.left -= 1;
