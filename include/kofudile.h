@@ -14,13 +14,14 @@
  *            count as a window are taken for one. docs/LAYOUT.md says what each word means.
  *   report   where a call that lets entries go writes them: 256 or more of kofudile_release. The answer's `places` says how many were written, from the
  *            first place on; places after them are as they were. Lent for the one call.
- *   lists    hashes, heights, keys, flags, alternates, a payload: read during the call only.
- *   out      where a payload is written; `hashes` where one is read. The answer says how many bytes or hashes were written, from the first on; what is after
- *            them is as it was. Lent for the one call.
+ *   lists    hashes, heights, keys, flags, alternates, a payload, a chain: read during the call only.
+ *   out      where a payload is written; `hashes` where one is read; `plan_hashes` and `plan_heights` where a request is planned. The answer says how many
+ *            bytes or hashes were written, from the first on; what is after them is as it was. Lent for the one call.
  * A list is a pointer and then its length, counted in elements. The library trusts the host in this alone:
- *   - a pointer is not null, and that many elements may be read (written: words, report, out, the hashes of a payload that is read). It is aligned as its type
- *     is: to 8 bytes, heights to 4, a payload's bytes not at all. In kofudile_mark_requested, kofudile_confirm_prefix_probe, kofudile_write_getdata and
- *     kofudile_read_getdata the pointer of a list of length 0 is not looked at, and may be null;
+ *   - a pointer is not null, and that many elements may be read (written: words, report, out, the hashes of a payload that is read, a plan's hashes and
+ *     heights). It is aligned as its type is: to 8 bytes, heights to 4, a payload's bytes not at all. In the functions over lists of kofudile_hash
+ *     (kofudile_mark_requested, kofudile_next_peer_request, kofudile_next_peer_request_allowing_retry, kofudile_confirm_prefix_probe,
+ *     kofudile_write_getdata, kofudile_read_getdata) the pointer of a list of length 0 is not looked at, and may be null;
  *   - what is lent for writing overlaps no other argument, and no other thread touches it during the call. Several threads may query one window;
  *   - nobody else writes what is lent during the call, another process or a device neither: the words are checked when a call begins and relied on until
  *     it ends. A window in shared memory needs a lock that all its writers take;
@@ -28,10 +29,12 @@
  * Everything else is checked: any length, any words, any numbers give an answer and never undefined behaviour.
  *
  * STACK AND TIME
- *   Give a call 64 KB of stack. As built it takes at most 27.2 KB (mark_received_from and credit_delivery_from; expire_pending, retire_before and
- *   retain_owned_by 21 to 27, a request of many entries 9, everything else under 5), and no call recurses.
+ *   Give a call 64 KB of stack, and one that plans 192 KB. As built a plan takes at most 104.4 KB, and any other call 27.2 KB (mark_received_from and
+ *   credit_delivery_from; expire_pending, retire_before and retain_owned_by 21 to 27, a request of many entries 9, everything else under 5). No call recurses.
  *   A request's list is looked through for hashes listed twice before its length is: one that is too long is refused in a time that grows with the square
  *   of its length (64,000 hashes: 2.6 s). A host whose lists come from elsewhere holds them to KOFUDILE_PLACES first.
+ *   A plan's time grows with the staged and refused lists, from 8,192 hashes on with the square of their length, not with the chain: of that only the
+ *   heights that are looked at are read.
  *
  * CLOCKS, AND SAVING A WINDOW
  *   The words hold the last accepted clock, and nothing but an opening sets it back. A clock far ahead, accepted once, stays: every call and query that takes an
@@ -58,9 +61,9 @@
  *   A value that may be missing is `has_x` and then `x`; where `has_x` is false, `x` is not read.
  *
  * ANSWERS
- *   An answer begins with `refused`: 0, or one of the numbers 1 to 11 below, and then every other field is 0. A call that answers a plain uint64_t
+ *   An answer begins with `refused`: 0, or one of the numbers 1 to 12 below, and then every other field is 0. A call that answers a plain uint64_t
  *   answers that number. A refused call changes nothing: words, report and what else is lent are as they were. Of several causes the lowest number is
- *   answered, but where a payload is read 11 before 10. The comment `refused by ..` of a call lists all that it can answer.
+ *   answered, but where a payload is read 11 before 10, and where a request is planned 12 before 10. The comment `refused by ..` of a call lists all that it can answer.
  */
 #ifndef KOFUDILE_H
 #define KOFUDILE_H
@@ -74,26 +77,29 @@ extern "C" {
 #endif
 
 #define KOFUDILE_VERSION_MAJOR 0
-#define KOFUDILE_VERSION_MINOR 2
+#define KOFUDILE_VERSION_MINOR 3
 #define KOFUDILE_VERSION_PATCH 0
 #define KOFUDILE_ABI 1 /* another number for any change of a struct or of a function's arguments, answer or name */
 
 #define KOFUDILE_WORDS 4096                  /* length of `words` */
-#define KOFUDILE_PLACES 256                  /* least length of `report`, and most entries pending */
+#define KOFUDILE_PLACES 256                  /* least length of `report` and of a plan's lists, and most entries pending */
 #define KOFUDILE_SEATS 256                   /* length of `keys` and `flags` */
 #define KOFUDILE_HASH_WORDS 4                /* words of a hash */
 #define KOFUDILE_GETDATA_HASHES 256          /* most hashes of a getdata payload */
 #define KOFUDILE_GETDATA_BYTES 9219          /* length of the longest: 3 bytes for the count, 36 for each of 256 hashes */
 #define KOFUDILE_SECOND UINT64_C(1000000000) /* nanoseconds */
 
-/* No pointer is null, and the answer is looked at; of functions over lists the first pointer alone, since an empty list has none; where all are lists, none. */
+/* No pointer is null, and the answer is looked at; of functions over lists the first pointer alone, since an empty list has none (of a plan the report's too);
+   where all are lists, none. */
 #if defined(__GNUC__)
 #define KOFUDILE_API __attribute__((nonnull, warn_unused_result))
 #define KOFUDILE_LIST_API __attribute__((nonnull(1), warn_unused_result))
+#define KOFUDILE_PLAN_API __attribute__((nonnull(1, 3), warn_unused_result))
 #define KOFUDILE_LISTS_API __attribute__((warn_unused_result))
 #else
 #define KOFUDILE_API
 #define KOFUDILE_LIST_API
+#define KOFUDILE_PLAN_API
 #define KOFUDILE_LISTS_API
 #endif
 
@@ -133,7 +139,9 @@ enum {
     /* The host, by memory it lends. */
     KOFUDILE_REFUSED_SHORT_OUTPUT = 10, /* what is lent to be written is too short for what would be written */
     /* A peer. */
-    KOFUDILE_REFUSED_PAYLOAD = 11 /* the bytes are no getdata payload for at most 256 witness blocks: a type, the length, the count or its form is another */
+    KOFUDILE_REFUSED_PAYLOAD = 11, /* the bytes are no getdata payload for at most 256 witness blocks: a type, the length, the count or its form is another */
+    /* The host, by memory it lends. */
+    KOFUDILE_REFUSED_CHAIN = 12 /* the chain is not tip + 1 whole hashes */
 };
 
 /* Why an entry went. All but DELIVERED, RELEASED and RETIRED lower the frontier to the entry's height. */
@@ -233,6 +241,11 @@ typedef struct {
     kofudile_hash hashes[8]; /* 0 after the first `count` */
 } kofudile_plan;
 
+/* count: how many hashes and heights were planned, to be asked of the source; 0: there is no request, and next_height is 0. places: of the report. */
+typedef struct {
+    uint64_t refused, places, count, next_height;
+} kofudile_next_request;
+
 /* ---- Opening ---- */
 
 /*
@@ -265,6 +278,59 @@ KOFUDILE_API kofudile_number kofudile_mark_requested_words(uint64_t *words, size
  */
 KOFUDILE_API kofudile_number kofudile_mark_owned_fetch(uint64_t *words, size_t words_len, uint64_t owner, kofudile_hash hash, uint32_t height, bool is_staged,
     uint64_t byte_headroom, uint64_t count_headroom, uint64_t clock);
+
+/* ---- Planning: what to ask of a peer next ---- */
+
+/*
+ * Plans the next request to source and opens no entry: a plan that was sent is marked by kofudile_mark_requested, with its hashes, heights and next_height
+ * as they are. The sweep (kofudile_expire_pending) is part of it, and the report has what it let go, whether a plan comes of it or not.
+ *   plan_hashes, plan_heights   where the plan is written: plan_len places each, at least KOFUDILE_PLACES. First what was swept, by height; then the
+ *                               chain's from the frontier up. Neither pending, staged nor refused ones; no hash twice; none under floor.
+ *   chain, tip                  the hashes from height 0 to tip, so chain_len is tip + 1. Only the heights that are looked at are read.
+ *   start, best, floor          the least height that is wanted; the greatest that the peer has; the least that it serves. A frontier above start falls to
+ *                               start where the block there is neither pending nor staged.
+ *   staged, refused             hashes of the staged blocks; hashes that this peer is not to be asked for. The lowest of these holds next_height back.
+ *   exhausted                   staged bytes reach their limit: then there is no plan, and nothing is swept.
+ *   byte_headroom, count_headroom   those of AFTER the sweep: kofudile_staged_headrooms finds them on a copy. Do not sweep the words first and then plan: the
+ *                               second sweep has fewer active peers, and a shorter timeout.
+ * A source whose time is out or whose key cools gets no plan, and nothing is swept. docs/SPECIFICATION.md, section 16, has every step.
+ * refused by 1, 2, 3, 4, 6, 12 (chain_len is not tip + 1), 10 (plan_len is under 256)
+ */
+KOFUDILE_PLAN_API static inline kofudile_next_request kofudile_next_peer_request(uint64_t *words, size_t words_len, kofudile_release *report,
+    size_t report_len, kofudile_hash *plan_hashes, uint32_t *plan_heights, size_t plan_len, uint64_t source, const kofudile_hash *chain, size_t chain_len,
+    uint32_t tip, uint32_t start, uint32_t best, uint32_t floor, const kofudile_hash *staged, size_t staged_len, const kofudile_hash *refused,
+    size_t refused_len, bool exhausted, uint64_t byte_headroom, uint64_t count_headroom, uint64_t clock);
+
+/* The same also of a source whose time is out or whose key cools: it is not asked about. */
+KOFUDILE_PLAN_API static inline kofudile_next_request kofudile_next_peer_request_allowing_retry(uint64_t *words, size_t words_len,
+    kofudile_release *report, size_t report_len, kofudile_hash *plan_hashes, uint32_t *plan_heights, size_t plan_len, uint64_t source,
+    const kofudile_hash *chain, size_t chain_len, uint32_t tip, uint32_t start, uint32_t best, uint32_t floor, const kofudile_hash *staged,
+    size_t staged_len, const kofudile_hash *refused, size_t refused_len, bool exhausted, uint64_t byte_headroom, uint64_t count_headroom, uint64_t clock);
+
+/*
+ * The same of hashes as plain words, four each: a list's length is FOUR TIMES the number of its hashes (plan_heights_len: the number of heights). Lent are
+ * 1,024 words for the plan's hashes or more, and 256 heights or more; the chain is 4 * (tip + 1) words. Of staged and refused words what is past the last
+ * whole hash is not read.
+ */
+KOFUDILE_API kofudile_next_request kofudile_next_peer_request_words(uint64_t *words, size_t words_len, kofudile_release *report, size_t report_len,
+    uint64_t *plan_hash_words, size_t plan_hash_words_len, uint32_t *plan_heights, size_t plan_heights_len, uint64_t source,
+    const uint64_t *chain_words, size_t chain_words_len, uint32_t tip, uint32_t start, uint32_t best, uint32_t floor, const uint64_t *staged_words,
+    size_t staged_words_len, const uint64_t *refused_words, size_t refused_words_len, bool exhausted, uint64_t byte_headroom,
+    uint64_t count_headroom, uint64_t clock);
+KOFUDILE_API kofudile_next_request kofudile_next_peer_request_allowing_retry_words(uint64_t *words, size_t words_len, kofudile_release *report,
+    size_t report_len, uint64_t *plan_hash_words, size_t plan_hash_words_len, uint32_t *plan_heights, size_t plan_heights_len, uint64_t source,
+    const uint64_t *chain_words, size_t chain_words_len, uint32_t tip, uint32_t start, uint32_t best, uint32_t floor, const uint64_t *staged_words,
+    size_t staged_words_len, const uint64_t *refused_words, size_t refused_words_len, bool exhausted, uint64_t byte_headroom,
+    uint64_t count_headroom, uint64_t clock);
+
+/*
+ * The two headrooms for a plan at this clock: first bytes, second blocks. The words are not written: the sweep is made on a copy of them in `copy`
+ * (KOFUDILE_WORDS of them, what they hold does not matter), and the report is written over. Without staged bytes there is no limit of bytes, without staged blocks
+ * none of blocks; else max_received_bytes, or the window's own max_received_blocks, less what is staged and less what is pending, not below 0.
+ * refused by 1, 2, 3, 4
+ */
+KOFUDILE_API static inline kofudile_pair kofudile_staged_headrooms(const uint64_t *words, size_t words_len, uint64_t *copy, kofudile_release *report,
+    size_t report_len, uint64_t staged_bytes, uint64_t staged_blocks, uint64_t max_received_bytes, uint64_t clock);
 
 /* ---- getdata's payload: needs no window, and changes none ---- */
 
@@ -434,6 +500,54 @@ KOFUDILE_LIST_API static inline kofudile_number kofudile_mark_requested(uint64_t
         count ? heights : &no_height, count, next, byte_headroom, count_headroom, clock);
 }
 
+KOFUDILE_PLAN_API static inline kofudile_next_request kofudile_next_peer_request(uint64_t *words, size_t words_len, kofudile_release *report,
+    size_t report_len, kofudile_hash *plan_hashes, uint32_t *plan_heights, size_t plan_len, uint64_t source, const kofudile_hash *chain, size_t chain_len,
+    uint32_t tip, uint32_t start, uint32_t best, uint32_t floor, const kofudile_hash *staged, size_t staged_len, const kofudile_hash *refused,
+    size_t refused_len, bool exhausted, uint64_t byte_headroom, uint64_t count_headroom, uint64_t clock) {
+    const uint64_t no_word = 0;
+    uint64_t no_plan_word = 0;
+    uint32_t no_plan_height = 0;
+    return kofudile_next_peer_request_words(words, words_len, report, report_len, plan_len ? &plan_hashes->a : &no_plan_word,
+        KOFUDILE_HASH_WORDS * plan_len, plan_len ? plan_heights : &no_plan_height, plan_len, source, chain_len ? &chain->a : &no_word,
+        KOFUDILE_HASH_WORDS * chain_len, tip, start, best, floor, staged_len ? &staged->a : &no_word, KOFUDILE_HASH_WORDS * staged_len,
+        refused_len ? &refused->a : &no_word, KOFUDILE_HASH_WORDS * refused_len, exhausted, byte_headroom, count_headroom, clock);
+}
+
+KOFUDILE_PLAN_API static inline kofudile_next_request kofudile_next_peer_request_allowing_retry(uint64_t *words, size_t words_len,
+    kofudile_release *report, size_t report_len, kofudile_hash *plan_hashes, uint32_t *plan_heights, size_t plan_len, uint64_t source,
+    const kofudile_hash *chain, size_t chain_len, uint32_t tip, uint32_t start, uint32_t best, uint32_t floor, const kofudile_hash *staged,
+    size_t staged_len, const kofudile_hash *refused, size_t refused_len, bool exhausted, uint64_t byte_headroom, uint64_t count_headroom, uint64_t clock) {
+    const uint64_t no_word = 0;
+    uint64_t no_plan_word = 0;
+    uint32_t no_plan_height = 0;
+    return kofudile_next_peer_request_allowing_retry_words(words, words_len, report, report_len, plan_len ? &plan_hashes->a : &no_plan_word,
+        KOFUDILE_HASH_WORDS * plan_len, plan_len ? plan_heights : &no_plan_height, plan_len, source, chain_len ? &chain->a : &no_word,
+        KOFUDILE_HASH_WORDS * chain_len, tip, start, best, floor, staged_len ? &staged->a : &no_word, KOFUDILE_HASH_WORDS * staged_len,
+        refused_len ? &refused->a : &no_word, KOFUDILE_HASH_WORDS * refused_len, exhausted, byte_headroom, count_headroom, clock);
+}
+
+/* What is left of a limit, not below 0. */
+static inline uint64_t kofudile_left_of(uint64_t limit, uint64_t staged, uint64_t pending) {
+    const uint64_t left = limit > staged ? limit - staged : 0;
+    return left > pending ? left - pending : 0;
+}
+
+KOFUDILE_API static inline kofudile_pair kofudile_staged_headrooms(const uint64_t *words, size_t words_len, uint64_t *copy, kofudile_release *report,
+    size_t report_len, uint64_t staged_bytes, uint64_t staged_blocks, uint64_t max_received_bytes, uint64_t clock) {
+    const size_t max_received_blocks = 3594; /* the setting's word, by docs/LAYOUT.md */
+    kofudile_pair headrooms = {KOFUDILE_REFUSED_WORDS_LENGTH, 0, 0};
+    kofudile_gone swept;
+    if (words_len != KOFUDILE_WORDS) return headrooms;
+    for (size_t i = 0; i < KOFUDILE_WORDS; i++) copy[i] = words[i];
+    swept = kofudile_expire_pending(copy, KOFUDILE_WORDS, report, report_len, clock);
+    headrooms.refused = swept.refused;
+    if (swept.refused != 0) return headrooms;
+    headrooms.first = staged_bytes ? kofudile_left_of(max_received_bytes, staged_bytes, kofudile_pending_bytes(copy, KOFUDILE_WORDS).value) : UINT64_MAX;
+    headrooms.second =
+        staged_blocks ? kofudile_left_of(copy[max_received_blocks], staged_blocks, kofudile_pending_len(copy, KOFUDILE_WORDS).value) : UINT64_MAX;
+    return headrooms;
+}
+
 KOFUDILE_LIST_API static inline uint64_t kofudile_confirm_prefix_probe(uint64_t *words, size_t words_len, uint64_t owner, const kofudile_hash *hashes,
     size_t count, const uint64_t *alternates, size_t alternates_len, uint64_t clock) {
     const uint64_t no_word = 0;
@@ -527,6 +641,7 @@ static inline const char *kofudile_refusal_text(uint64_t refused) {
     case KOFUDILE_REFUSED_BODY_SIZE: return "the body is above 4294967295 bytes";
     case KOFUDILE_REFUSED_SHORT_OUTPUT: return "the output lent is too short for what would be written";
     case KOFUDILE_REFUSED_PAYLOAD: return "the bytes are no getdata payload for at most 256 witness blocks";
+    case KOFUDILE_REFUSED_CHAIN: return "the chain is not tip + 1 hashes";
     default: return "not a refusal of this library";
     }
 }
@@ -553,6 +668,7 @@ KOFUDILE_SIZE(kofudile_received, 32);
 KOFUDILE_SIZE(kofudile_rejected, 24);
 KOFUDILE_SIZE(kofudile_blocked, 72);
 KOFUDILE_SIZE(kofudile_plan, 296);
+KOFUDILE_SIZE(kofudile_next_request, 32);
 
 #ifdef __cplusplus
 }

@@ -1,7 +1,7 @@
 /*
  * The header's own functions: lists of hashes pass four words for each hash, and an empty one's null pointer is not handed on; a won race, the deepest
- * call; the original's budgets; the order of a hash's bytes; getdata's payload; the texts of refusals. And what the header says of clocks and seats. Ends with
- * 0, or prints a line that fails.
+ * call; plans and their headrooms; the original's budgets; the order of a hash's bytes; getdata's payload; the texts of refusals. And what the header says of
+ * clocks and seats. Ends with 0, or prints a line that fails.
  */
 #include <stdio.h>
 #include <string.h>
@@ -49,9 +49,9 @@ static int bytes_and_texts(void) {
     memset(again, 9, sizeof again);
     kofudile_hash_bytes(hash, again);
     HOLDS(memcmp(again, bytes, sizeof bytes) == 0 && again[32] == 9);
-    for (uint64_t i = 0; i <= KOFUDILE_REFUSED_PAYLOAD; i++)
-        for (uint64_t j = i + 1; j <= KOFUDILE_REFUSED_PAYLOAD + 1; j++) HOLDS(strcmp(kofudile_refusal_text(i), kofudile_refusal_text(j)) != 0);
-    HOLDS(strcmp(kofudile_refusal_text(KOFUDILE_REFUSED_PAYLOAD + 1), kofudile_refusal_text(UINT64_MAX)) == 0);
+    for (uint64_t i = 0; i <= KOFUDILE_REFUSED_CHAIN; i++)
+        for (uint64_t j = i + 1; j <= KOFUDILE_REFUSED_CHAIN + 1; j++) HOLDS(strcmp(kofudile_refusal_text(i), kofudile_refusal_text(j)) != 0);
+    HOLDS(strcmp(kofudile_refusal_text(KOFUDILE_REFUSED_CHAIN + 1), kofudile_refusal_text(UINT64_MAX)) == 0);
     HOLDS(kofudile_abi_1() == KOFUDILE_ABI);
     return 0;
 }
@@ -100,6 +100,75 @@ static int empty_payloads(void) {
     kofudile_number none = kofudile_read_getdata(payload, 1, NULL, 0);
     HOLDS(none.refused == 0 && none.value == 0);
     HOLDS(kofudile_read_getdata(NULL, 0, NULL, 0).refused == KOFUDILE_REFUSED_PAYLOAD);
+    return 0;
+}
+
+enum { TIP = 7 };
+static kofudile_hash chain[TIP + 1];
+static kofudile_hash plan_hashes[KOFUDILE_PLACES];
+static uint32_t plan_heights[KOFUDILE_PLACES];
+static uint64_t copy[KOFUDILE_WORDS];
+
+/* A plan for seat 1 from height 1 on, over the chain and these lists. */
+static kofudile_next_request plan_over(const kofudile_hash *staged, size_t staged_len, const kofudile_hash *refused, size_t refused_len) {
+    return kofudile_next_peer_request(words, KOFUDILE_WORDS, report, KOFUDILE_PLACES, plan_hashes, plan_heights, KOFUDILE_PLACES, 1, chain, TIP + 1, TIP, 1,
+        TIP, 0, staged, staged_len, refused, refused_len, false, UINT64_MAX, UINT64_MAX, 0);
+}
+
+/* Every list is taken from the first hash on, and an empty one without a pointer; what is after the plan stays. */
+static int plans(const uint64_t *keys) {
+    HOLDS(kofudile_open(words, KOFUDILE_WORDS, kofudile_default_sync_budget(600 * KOFUDILE_SECOND), keys, KOFUDILE_SEATS, 0) == 0);
+    for (uint64_t i = 0; i <= TIP; i++) chain[i].d = i + 1;
+    memset(plan_heights, 9, sizeof plan_heights);
+    memset(plan_hashes, 9, sizeof plan_hashes);
+    kofudile_next_request plan = plan_over(NULL, 0, NULL, 0);
+    HOLDS(plan.refused == 0 && plan.places == 0 && plan.count == 7 && plan.next_height == 8);
+    HOLDS(memcmp(plan_hashes, chain + 1, 7 * sizeof chain[0]) == 0 && plan_hashes[7].a == UINT64_C(0x0909090909090909));
+    HOLDS(plan_heights[0] == 1 && plan_heights[6] == 7 && plan_heights[7] == 0x09090909);
+    HOLDS(kofudile_pending_len(words, KOFUDILE_WORDS).value == 0);
+    plan = plan_over(chain + 2, 1, chain + 4, 2);
+    HOLDS(plan.count == 4 && plan.next_height == 4);
+    HOLDS(plan_heights[0] == 1 && plan_heights[1] == 3 && plan_heights[2] == 6 && plan_heights[3] == 7 && plan_hashes[2].d == chain[6].d);
+    HOLDS(kofudile_mark_requested(words, KOFUDILE_WORDS, 1, plan_hashes, plan_heights, (size_t)plan.count, (uint32_t)plan.next_height, UINT64_MAX,
+              UINT64_MAX, 0)
+              .refused == 0);
+    HOLDS(kofudile_request_cursor(words, KOFUDILE_WORDS).value == 4);
+    return 0;
+}
+
+/* Of two causes 12 goes before 10. A peer that cools is planned for by the second form alone. */
+static int plans_refused(void) {
+    const kofudile_next_request none = kofudile_next_peer_request(words, KOFUDILE_WORDS, report, KOFUDILE_PLACES, NULL, NULL, 0, 1, NULL, 0, TIP, 1, TIP,
+        0, NULL, 0, NULL, 0, false, UINT64_MAX, UINT64_MAX, 0);
+    HOLDS(none.refused == KOFUDILE_REFUSED_CHAIN && none.places == 0 && none.count == 0 && none.next_height == 0);
+    HOLDS(kofudile_next_peer_request(words, KOFUDILE_WORDS, report, KOFUDILE_PLACES, plan_hashes, plan_heights, KOFUDILE_PLACES - 1, 1, chain, TIP + 1, TIP,
+              1, TIP, 0, NULL, 0, NULL, 0, false, UINT64_MAX, UINT64_MAX, 0)
+              .refused == KOFUDILE_REFUSED_SHORT_OUTPUT);
+    HOLDS(kofudile_next_peer_request(words, KOFUDILE_WORDS, report, KOFUDILE_PLACES, plan_hashes, plan_heights, KOFUDILE_PLACES, 256, chain, TIP, TIP, 1, TIP,
+              0, NULL, 0, NULL, 0, false, UINT64_MAX, UINT64_MAX, 0)
+              .refused == KOFUDILE_REFUSED_PEER);
+    HOLDS(kofudile_mark_peer_unresponsive(words, KOFUDILE_WORDS, 2, 0) == 0);
+    for (int retry = 0; retry < 2; retry++) {
+        const kofudile_next_request plan = (retry ? kofudile_next_peer_request_allowing_retry : kofudile_next_peer_request)(words, KOFUDILE_WORDS, report,
+            KOFUDILE_PLACES, plan_hashes, plan_heights, KOFUDILE_PLACES, 2, chain, TIP + 1, TIP, 1, TIP, 0, NULL, 0, NULL, 0, false, UINT64_MAX, UINT64_MAX, 0);
+        HOLDS(plan.refused == 0 && plan.count == (retry ? 2u : 0u) && plan.next_height == (retry ? 8u : 0u));
+    }
+    return 0;
+}
+
+/* Four are pending, of 262,144 bytes each; after 600 s none is, by the copy alone. */
+static int headrooms(void) {
+    const uint64_t mean = 262144, late = 600 * KOFUDILE_SECOND;
+    kofudile_pair said = kofudile_staged_headrooms(words, KOFUDILE_WORDS, copy, report, KOFUDILE_PLACES, 0, 0, 9 * mean, 0);
+    HOLDS(said.refused == 0 && said.first == UINT64_MAX && said.second == UINT64_MAX);
+    said = kofudile_staged_headrooms(words, KOFUDILE_WORDS, copy, report, KOFUDILE_PLACES, mean, 2, 9 * mean, 0);
+    HOLDS(said.refused == 0 && said.first == 4 * mean && said.second == 250);
+    said = kofudile_staged_headrooms(words, KOFUDILE_WORDS, copy, report, KOFUDILE_PLACES, mean, 300, 9 * mean, late);
+    HOLDS(said.refused == 0 && said.first == 8 * mean && said.second == 0);
+    HOLDS(kofudile_pending_len(words, KOFUDILE_WORDS).value == 4 && kofudile_pending_len(copy, KOFUDILE_WORDS).value == 0);
+    HOLDS(kofudile_staged_headrooms(words, KOFUDILE_WORDS - 1, copy, report, KOFUDILE_PLACES, 0, 0, 0, 0).refused == KOFUDILE_REFUSED_WORDS_LENGTH);
+    said = kofudile_staged_headrooms(words, KOFUDILE_WORDS, copy, report, KOFUDILE_PLACES, mean, 2, 9 * mean, UINT64_MAX);
+    HOLDS(said.refused == KOFUDILE_REFUSED_CLOCK && said.first == 0 && said.second == 0);
     return 0;
 }
 
@@ -173,5 +242,6 @@ int main(void) {
         body = kofudile_mark_received_from(words, KOFUDILE_WORDS, report, KOFUDILE_PLACES, hashes[i], 80, true, alternate, 0);
     HOLDS(body.refused == 0 && body.places == 2);
     HOLDS(report[0].reason == KOFUDILE_REASON_DELIVERED && report[1].reason == KOFUDILE_REASON_PREFIX_RACE_LOST);
+    if (plans(keys) || plans_refused() || headrooms()) return 1;
     return budgets(keys) || bytes_and_texts() || one_entry() || counts() || empty_payloads() || reused_seat(keys) || far_clock(keys);
 }

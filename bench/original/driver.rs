@@ -1,9 +1,8 @@
 // A child module of the original (it stands where its tests did), so that it may call private functions. Arguments come prepared: a call here is the
 // original's call and nothing more.
 
-use super::super::shims::bitcoin_rs_execution::chain::BlockTree;
+use super::super::shims::bitcoin_rs_execution::chain::NodeId;
 use super::super::shims::bitcoin_rs_wire::PeerEndpoint;
-use super::super::shims::p2p::BlockStager;
 use super::*;
 
 /// Settings: seven counts, five durations in nanoseconds.
@@ -12,10 +11,43 @@ pub struct Original {
     window: DownloadWindow,
     stager: BlockStager,
     tree: BlockTree,
+    /// The last plan.
+    planned: Option<PeerRequest>,
 }
 
 /// A request as the original takes it.
 pub struct Prepared(PeerRequest);
+
+/// What a plan is made over: the oracle's tree, and sets of the window's own maps.
+pub struct Lists {
+    tree: BlockTree,
+    tip: TipSnapshot,
+    start: u32,
+    stager: BlockStager,
+    refused: HashSet<Hash256>,
+}
+
+impl Lists {
+    pub fn new(chain: &[[u8; 32]], start: u32, staged: &[[u8; 32]], refused: &[[u8; 32]]) -> Self {
+        let height = chain.len() as u32 - 1;
+        Self {
+            tree: BlockTree { staged_height: None, chain: chain.iter().copied().map(Hash256).collect() },
+            tip: TipSnapshot { tip_id: NodeId(height), hash: Hash256(chain[height as usize]), height },
+            start,
+            stager: BlockStager::with(staged.len(), staged.iter().copied().map(Hash256)),
+            refused: refused.iter().copied().map(Hash256).collect(),
+        }
+    }
+}
+
+/// What a plan may change.
+pub struct Kept {
+    pending: HashMap<Hash256, PendingBlock>,
+    pending_bytes: usize,
+    next_request_height: u32,
+    owner_downloading_since: HashMap<PeerSource, Instant>,
+    owner_last_body_at: HashMap<PeerSource, Instant>,
+}
 
 impl Original {
     pub fn open(counts: [usize; 7], durations: [u64; 5]) -> Self {
@@ -24,7 +56,7 @@ impl Original {
             max_pending_blocks: counts[0],
             max_pending_bytes: counts[1],
             max_received_blocks: counts[2],
-            max_received_bytes: 0,
+            max_received_bytes: usize::MAX,
             max_retained_bytes: 0,
             max_peer_inflight: counts[3],
             fanout_peer_inflight: counts[4],
@@ -36,15 +68,9 @@ impl Original {
             stall_timeout_max: stall_max,
             staller_cooldown: cooldown,
         });
-        let headroom = u64::MAX;
-        let stager = BlockStager {
-            byte_headroom: headroom,
-            count_headroom: headroom,
-            staged_count: 200,
-            staged_hash: Some(Hash256([0; 32])),
-            ..BlockStager::default()
-        };
-        Self { base: Instant::now(), window, stager, tree: BlockTree { staged_height: Some(1 << 20) } }
+        let stager = BlockStager::with(200, [Hash256([0; 32])]);
+        let tree = BlockTree { staged_height: Some(1 << 20), chain: Vec::new() };
+        Self { base: Instant::now(), window, stager, tree, planned: None }
     }
 
     pub fn moment(&self, clock: u64) -> Instant {
@@ -98,7 +124,7 @@ impl Original {
     /// Nothing staged is retired here: the staged hashes are the host's.
     #[inline(never)]
     pub fn retire_before(&mut self, height: u32, now: Instant) {
-        let mut stager = BlockStager::default();
+        let mut stager = BlockStager::with(0, []);
         self.window.retire_before(&mut stager, height, &self.tree, now)
     }
 
@@ -148,6 +174,49 @@ impl Original {
     #[inline(never)]
     pub fn max_pending_blocks(&self) -> usize {
         self.window.max_pending_blocks()
+    }
+
+    /// How many entries the plan has. Nothing is retargeted: `restore` forgets the tip that the last plan noted.
+    #[inline(never)]
+    pub fn next_peer_request(&mut self, lists: &mut Lists, source: PeerSource, now: Instant) -> usize {
+        let Lists { tree, tip, start, stager, refused } = lists;
+        let is_refused = |hash: Hash256| refused.contains(&hash);
+        let mut refusals = RefusalFilter::new(&is_refused);
+        self.planned = self.window.next_peer_request(stager, source, tip, *start, tip.height, 0, tree, now, &mut refusals);
+        self.planned.as_ref().map_or(0, PeerRequest::len)
+    }
+
+    pub fn kept(&self) -> Kept {
+        let window = &self.window;
+        Kept {
+            pending: window.pending.clone(),
+            pending_bytes: window.pending_bytes,
+            next_request_height: window.next_request_height,
+            owner_downloading_since: window.owner_downloading_since.clone(),
+            owner_last_body_at: window.owner_last_body_at.clone(),
+        }
+    }
+
+    /// As it was, and without the last plan, so that the next one drops none.
+    pub fn restore(&mut self, kept: &Kept) {
+        let window = &mut self.window;
+        window.pending = kept.pending.clone();
+        window.pending_bytes = kept.pending_bytes;
+        window.next_request_height = kept.next_request_height;
+        window.owner_downloading_since = kept.owner_downloading_since.clone();
+        window.owner_last_body_at = kept.owner_last_body_at.clone();
+        window.request_tip = None;
+        self.planned = None;
+    }
+
+    /// The last plan's entries and next height.
+    pub fn planned(&self) -> (Vec<([u8; 32], u32)>, u32) {
+        let entries = |plan: &PeerRequest| plan.entries().map(|(height, hash)| (hash.0, height)).collect();
+        self.planned.as_ref().map_or((Vec::new(), 0), |plan| (entries(plan), plan.next_request_height))
+    }
+
+    pub fn request_cursor(&self) -> u32 {
+        self.window.next_request_height
     }
 
     pub fn pending_len(&self) -> usize {

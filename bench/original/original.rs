@@ -8,11 +8,18 @@ mod shims;
 #[cfg(feature = "cheap-hasher")]
 mod cheap;
 
+#[cfg(feature = "cheap-hasher")]
+use cheap::hashbrown as maps;
+#[cfg(not(feature = "cheap-hasher"))]
+use shims::hashbrown as maps;
+
+mod stager;
+
 #[allow(warnings)]
 mod download_window {
     include!(concat!(env!("OUT_DIR"), "/download_window.rs"));
 }
 
-pub use download_window::driver::{Original, Prepared};
+pub use download_window::driver::{Kept, Lists, Original, Prepared};
 pub use shims::bitcoin_rs_consensus::primitives::Hash256;
 pub use shims::bitcoin_rs_wire::connection::PeerSource;

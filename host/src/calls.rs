@@ -417,7 +417,7 @@ impl DownloadWindow {
         (self.words.as_mut_ptr(), WORDS)
     }
 
-    fn lend_both(&mut self) -> (ffi::Words, usize, ffi::Report, usize) {
+    pub(crate) fn lend_both(&mut self) -> (ffi::Words, usize, ffi::Report, usize) {
         (self.words.as_mut_ptr(), WORDS, self.report.as_mut_ptr(), PLACES)
     }
 
@@ -427,7 +427,7 @@ impl DownloadWindow {
     }
 
     /// After a call that lets go: its report counts from now, unless it was refused.
-    fn filled(&mut self, refused: u64, places: u64) -> Result<()> {
+    pub(crate) fn filled(&mut self, refused: u64, places: u64) -> Result<()> {
         Refusal::unless(refused, || self.places = places as usize)
     }
 

@@ -2,7 +2,8 @@
 //!
 //! [`DownloadWindow`] has the methods of the pending side of `DownloadWindow` of gosuda/bitcoin-rs, by the same names, over a library whose
 //! every function is proved to do what its definition says. README.md in this folder says, method by method, how a host of the original changes over.
-//! [`write_request`] and [`read_getdata`] are the message that a request is sent by.
+//! [`DownloadWindow::next_peer_request`] plans what to ask of a peer next; [`write_request`] and [`read_getdata`] are the message that a request is
+//! sent by.
 //!
 //! ```
 //! use kofudile::{DownloadWindow, Hash256, Headroom, default_sync_budget};
@@ -29,11 +30,13 @@ compile_error!("libkofudile.a is for x86-64");
 mod calls;
 pub mod ffi;
 mod getdata;
+mod planning;
 mod queries;
 mod types;
 
 pub use calls::DownloadWindow;
 pub use getdata::{GETDATA_HASHES, read_getdata, write_getdata, write_request};
+pub use planning::{Chain, PeerRequest, Stager};
 pub use types::{
     BlameReason, BlockedContext, BlockedDecision, Entry, Hash256, Headroom, OwnedFetch, PrefixProbePlan, Reason, Refusal,
     RejectDelivery, Release, Result, Seat, Staged, SyncBudget, default_sync_budget, fast_sync_budget,

@@ -8,6 +8,9 @@ use crate::types::{Entry, Hash256, Headroom, PrefixProbePlan, Refusal, Result, S
 /// The word that counts the records (docs/LAYOUT.md).
 const COUNT: usize = 3585;
 
+/// The word of the setting (docs/LAYOUT.md).
+const MAX_RECEIVED_BLOCKS: usize = 3594;
+
 /// Columns of the records: each holds a word for each of 256 places.
 const OWNERS: usize = 4 * PLACES;
 const TIMES: usize = 5 * PLACES;
@@ -98,6 +101,11 @@ impl DownloadWindow {
     /// The setting.
     pub fn min_peers_for_fanout(&self) -> usize {
         self.size(ffi::kofudile_min_peers_for_fanout)
+    }
+
+    /// The setting.
+    pub fn max_received_blocks(&self) -> usize {
+        self.words()[MAX_RECEIVED_BLOCKS] as usize
     }
 
     /// Whether fan-out is engaged.

@@ -315,10 +315,11 @@ pub struct Release {
     pub reason: Reason,
 }
 
-/// Why a call was refused: it then changed nothing. Of several causes the first in this order is told, but where a payload is read `Payload` first.
+/// Why a call was refused: it then changed nothing. Of several causes the first in this order is told, but where a payload is read `Payload` first,
+/// and where a request is planned `Chain` before `ShortOutput`.
 ///
 /// The window of this crate owns its words and its report and takes seats and keys as `u8`, so that its calls meet only `Clock`, `Settings`,
-/// `Peer` (more than 256 alternates), `Duplicate`, `TooMany` and `BodySize`; [`from_words`](crate::DownloadWindow::from_words) meets `NoWindow`,
+/// `Peer` (more than 256 alternates), `Duplicate`, `TooMany`, `BodySize` and `Chain`; [`from_words`](crate::DownloadWindow::from_words) meets `NoWindow`,
 /// [`write_getdata`](crate::write_getdata) `TooMany` and [`read_getdata`](crate::read_getdata) `Payload`. A host that calls the raw layer
 /// ([`ffi`](crate::ffi)) with memory of its own can meet the others.
 #[derive(Clone, Copy, Debug, PartialEq, Eq)]
@@ -347,10 +348,12 @@ pub enum Refusal {
     ShortOutput = 10,
     /// 11: a peer sent bytes that are no getdata payload for at most 256 witness blocks: a type, the length, the count or its form is another.
     Payload = 11,
+    /// 12: the host lent a chain that is not the hashes from height 0 to the tip.
+    Chain = 12,
 }
 
 impl Refusal {
-    const ALL: [Self; 11] = [
+    const ALL: [Self; 12] = [
         Self::WordsLength,
         Self::NoWindow,
         Self::ShortReport,
@@ -362,9 +365,10 @@ impl Refusal {
         Self::BodySize,
         Self::ShortOutput,
         Self::Payload,
+        Self::Chain,
     ];
 
-    /// 1 to 11.
+    /// 1 to 12.
     pub const fn number(self) -> u8 {
         self as u8
     }
@@ -392,6 +396,7 @@ impl fmt::Display for Refusal {
             Self::BodySize => "a body is above 4,294,967,295 bytes",
             Self::ShortOutput => "the memory lent is too short for what would be written",
             Self::Payload => "the bytes are no getdata payload for at most 256 witness blocks",
+            Self::Chain => "the chain is not the hashes from height 0 to the tip",
         })
     }
 }

@@ -1,8 +1,8 @@
 //! Every method through the library, each refusal that a host of this crate can meet, and the report.
 
 use kofudile::{
-    BlameReason, BlockedContext, BlockedDecision, DownloadWindow, Hash256, Headroom, OwnedFetch, Reason, Refusal, RejectDelivery,
-    Result, Staged, SyncBudget, default_sync_budget, fast_sync_budget,
+    BlameReason, BlockedContext, BlockedDecision, Chain, DownloadWindow, Hash256, Headroom, OwnedFetch, Reason, Refusal,
+    RejectDelivery, Result, Staged, Stager, SyncBudget, default_sync_budget, fast_sync_budget,
 };
 use std::time::{Duration, Instant};
 
@@ -71,6 +71,7 @@ fn a_fresh_window() {
     assert_eq!((window.pending_len(), window.pending_bytes()), (0, 0));
     assert_eq!((window.request_cursor(), window.ewma_block_bytes()), (1, 262_144));
     assert_eq!((window.max_pending_blocks(), window.min_peers_for_fanout()), (256, 4));
+    assert_eq!(window.max_received_blocks(), 16);
     assert_eq!((window.stall_timeout(), window.stall_decay_floor()), (2 * SECOND, 2 * SECOND));
     assert_eq!(window.effective_owner_timeout(), 600 * SECOND);
     assert_eq!((window.preferred_peer(), window.front_interval_ewma_ms()), (None, None));
@@ -387,6 +388,8 @@ fn a_clock_that_goes_back_is_refused_by_every_call_that_takes_one() {
     refused(w, r, |w| w.confirm_prefix_probe(1, &[], &[], past));
     refused(w, r, |w| w.observe_blocked(context(1), NOTHING_STAGED, past));
     refused(w, r, |w| w.set_fanout_eligible_peers(1, past));
+    refused(w, r, |w| w.next_peer_request(&Stager::EMPTY, 1, 0, 0, 0, 0, &Chain::new(), past, &[]));
+    refused(w, r, |w| w.next_peer_request_allowing_retry(&Stager::EMPTY, 1, 0, 0, 0, 0, &Chain::new(), past, &[]));
     refused(w, r, |w| w.peer_has_expired_pending(1, past));
     refused(w, r, |w| w.peer_in_staller_cooldown(1, past));
     refused(w, r, |w| w.expired_pending_capacity(past));
@@ -479,8 +482,9 @@ fn refusals_say_their_number() {
         Refusal::BodySize,
         Refusal::ShortOutput,
         Refusal::Payload,
+        Refusal::Chain,
     ];
-    assert_eq!(all.map(Refusal::number), [1, 2, 3, 4, 5, 6, 7, 8, 9, 10, 11]);
+    assert_eq!(all.map(Refusal::number), [1, 2, 3, 4, 5, 6, 7, 8, 9, 10, 11, 12]);
     assert!(all.iter().all(|refusal| !refusal.to_string().is_empty()));
 }
 

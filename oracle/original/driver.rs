@@ -1,11 +1,15 @@
 // The driver: a child module of the original, so that it may call its private functions and read its
 // private fields. It stands where the original's tests did (see substitutions.rs).
 
-use super::super::shims::bitcoin_rs_execution::chain::BlockTree;
+use super::super::shims::bitcoin_rs_execution::chain::{BlockTree, NodeId, TipSnapshot};
 use super::super::shims::bitcoin_rs_wire::PeerEndpoint;
 use super::super::shims::p2p::BlockStager;
 use super::*;
-use calls::{Answer, Call, Clock, Decision, Entry, Outcome, OwnedFetch, Plan, Reason, Rejection, Release, Seat, Settings, State};
+use calls::{
+    Answer, Call, Clock, Decision, Entry, Lent, Outcome, OwnedFetch, Plan, Reason, Rejection, Release, Request, Seat, Settings,
+    Staging, State,
+};
+use std::collections::BTreeSet;
 
 /// The original behind `calls::Window`. Clocks are read as so many nanoseconds after `base`.
 pub struct Original {
@@ -182,8 +186,11 @@ impl Original {
 
     /// Seats whose entries a sweep lets go as timed out; asked before the sweep.
     fn expired_owners(&self, call: &Call) -> Vec<Seat> {
-        let Call::ExpirePending { clock } = call else {
-            return Vec::new();
+        let clock = match call {
+            Call::ExpirePending { clock }
+            | Call::NextPeerRequest { clock, .. }
+            | Call::NextPeerRequestAllowingRetry { clock, .. } => clock,
+            _ => return Vec::new(),
         };
         let active = self.window.active_downloading_peers();
         (0..=u8::MAX).filter(|seat| self.window.owner_download_expired(self.source(*seat), active, self.at(*clock))).collect()
@@ -277,7 +284,7 @@ impl Original {
                 Answer::Done
             }
             Call::RetireBefore { clock, height } => {
-                let tree = BlockTree { staged_height: None };
+                let tree = BlockTree::default();
                 self.window.retire_before(&mut BlockStager::default(), *height, &tree, self.at(*clock));
                 Answer::Done
             }
@@ -285,6 +292,8 @@ impl Original {
                 self.window.retain_owned_by(|source| owns[usize::from(source.seat)]);
                 Answer::Done
             }
+            Call::NextPeerRequest { clock, source, lent } => self.next_peer_request(*clock, *source, lent, false),
+            Call::NextPeerRequestAllowingRetry { clock, source, lent } => self.next_peer_request(*clock, *source, lent, true),
             query => self.query(query),
         }
     }
@@ -305,6 +314,72 @@ impl Original {
         })
     }
 
+    /// Tree, tip and stager are made of the lent lists. The chains of a sequence only grow, so nothing is retargeted.
+    fn next_peer_request(&mut self, clock: Clock, source: Seat, lent: &Lent, allowing_retry: bool) -> Answer {
+        let tree = BlockTree { staged_height: None, chain: lent.chain.iter().copied().map(original_hash).collect() };
+        let height = lent.tip();
+        let tip = TipSnapshot { tip_id: NodeId(height), hash: tree.chain[height as usize], height };
+        let mut stager = self.stager(lent);
+        let refused: BTreeSet<Hash256> = lent.refused.iter().copied().map(original_hash).collect();
+        let is_refused = |hash: Hash256| refused.contains(&hash);
+        let mut refusals = RefusalFilter::new(&is_refused);
+        let (now, seat) = (self.at(clock), self.source(source));
+        let refused_peer = self.window.peer_has_expired_pending(seat, now) || self.window.peer_in_staller_cooldown(seat, now);
+        let planned = if allowing_retry {
+            self.window.next_peer_request_allowing_retry(
+                &mut stager,
+                seat,
+                &tip,
+                lent.start,
+                lent.best,
+                lent.floor,
+                &tree,
+                now,
+                &mut refusals,
+            )
+        } else {
+            self.window.next_peer_request(
+                &mut stager,
+                seat,
+                &tip,
+                lent.start,
+                lent.best,
+                lent.floor,
+                &tree,
+                now,
+                &mut refusals,
+            )
+        };
+        assert_eq!(self.window.staged_bytes_exhausted(&stager), lent.exhausted, "exhausted as the original finds it");
+        if !lent.exhausted && (allowing_retry || !refused_peer) {
+            // Planning opens no entry, so the window is still the swept one.
+            let bytes = self.window.staged_byte_headroom(&stager) as u64;
+            let count = self.window.staged_count_headroom(&stager, 0) as u64;
+            assert_eq!((bytes, count), (lent.byte_headroom, lent.count_headroom), "headrooms as the original finds them");
+        }
+        Answer::Proposed(planned.map(|request| Request {
+            owner: request.owner().seat,
+            entries: request.entries().map(|(height, hash)| (plain_hash(hash), height)).collect(),
+            next_request_height: request.next_request_height,
+        }))
+    }
+
+    /// The staged hashes, with bytes and limit as said, or some that are exhausted or not and headrooms as handed in.
+    fn stager(&mut self, lent: &Lent) -> BlockStager {
+        let (staging, headrooms) = match lent.staging {
+            Some(staging) => (staging, None),
+            None => (Staging { bytes: lent.exhausted.into(), limit: 1 }, Some((lent.byte_headroom, lent.count_headroom))),
+        };
+        self.window.budget.max_received_bytes = staging.limit as usize;
+        BlockStager {
+            headrooms,
+            staged_count: lent.staged.len() as u64,
+            staged_bytes: staging.bytes,
+            staged_hashes: lent.staged.iter().copied().map(original_hash).collect(),
+            ..BlockStager::default()
+        }
+    }
+
     fn observe_blocked(&mut self, call: &Call) -> Answer {
         let Call::ObserveBlocked { clock, next_apply_height, frontier_hash, busy, staged_count, staged_height } = call else {
             unreachable!("asked for observations only")
@@ -317,7 +392,7 @@ impl Original {
         // Any one staged hash serves: the tree is asked for its height only.
         let staged_hash = staged_height.map(|_| Hash256([0; 32]));
         let stager = BlockStager { staged_count: *staged_count, staged_hash, ..BlockStager::default() };
-        let tree = BlockTree { staged_height: *staged_height };
+        let tree = BlockTree { staged_height: *staged_height, chain: Vec::new() };
         Answer::Decided(match self.window.observe_blocked(context, &stager, &tree, self.at(*clock)) {
             BlockedDecision::Blame { owner, reason } => Decision::Blame {
                 owner: owner.seat,
@@ -425,8 +500,9 @@ fn reason(call: &Call, entry: &Entry, before: &State, expired: &[Seat]) -> Reaso
         Call::RequeueForRetry { .. } => Reason::Retry,
         Call::ReleasePending { .. } => Reason::Released,
         Call::RetireBefore { .. } => Reason::Retired,
-        Call::ExpirePending { .. } if expired.contains(&entry.owner) => Reason::OwnerTimedOut,
-        Call::ExpirePending { .. } => Reason::PassedOver,
+        Call::ExpirePending { .. } | Call::NextPeerRequest { .. } | Call::NextPeerRequestAllowingRetry { .. } => {
+            if expired.contains(&entry.owner) { Reason::OwnerTimedOut } else { Reason::PassedOver }
+        }
         Call::RetainOwnedBy { .. } => Reason::SeatLost,
         other => panic!("{other:?} let an entry go"),
     }
@@ -459,10 +535,10 @@ fn nanoseconds(duration: Duration) -> u64 {
 }
 
 fn headroom(byte_headroom: u64, count_headroom: u64) -> BlockStager {
-    BlockStager { byte_headroom, count_headroom, ..BlockStager::default() }
+    BlockStager { headrooms: Some((byte_headroom, count_headroom)), ..BlockStager::default() }
 }
 
-/// The two byte limits that no ported function reads are 0.
+/// Of the two byte limits that are no setting, a plan's call gives the one that is read.
 fn budget(settings: &Settings) -> SyncBudget {
     SyncBudget {
         max_pending_blocks: settings.max_pending_blocks as usize,

@@ -75,8 +75,9 @@ pub mod bitcoin_rs_execution {
     pub mod chain {
         use super::super::bitcoin_rs_consensus::primitives::{Hash256, Network};
 
+        /// A height of the one chain that a plan is made over.
         #[derive(Clone, Copy, PartialEq, Eq)]
-        pub struct NodeId;
+        pub struct NodeId(pub u32);
 
         pub struct Node {
             pub hash: Hash256,
@@ -84,9 +85,11 @@ pub mod bitcoin_rs_execution {
             pub parent: Option<NodeId>,
         }
 
-        /// Knows the height of the one staged hash, if it knows any.
+        /// One chain, by height; for an observation the height of the one staged hash, if it knows any.
+        #[derive(Default)]
         pub struct BlockTree {
             pub staged_height: Option<u32>,
+            pub chain: Vec<Hash256>,
         }
 
         impl BlockTree {
@@ -94,16 +97,18 @@ pub mod bitcoin_rs_execution {
                 self.staged_height
             }
 
-            pub fn lookup(&self, _hash: Hash256) -> Option<NodeId> {
-                unreachable!("left out (SPECIFICATION 1.7)")
+            pub fn lookup(&self, hash: Hash256) -> Option<NodeId> {
+                let height = self.chain.iter().position(|found| *found == hash)?;
+                Some(NodeId(height as u32))
             }
 
-            pub fn node(&self, _id: NodeId) -> Result<Node, ()> {
-                unreachable!("left out (SPECIFICATION 1.7)")
+            pub fn node(&self, id: NodeId) -> Result<Node, ()> {
+                let hash = *self.chain.get(id.0 as usize).ok_or(())?;
+                Ok(Node { hash, height: id.0, parent: id.0.checked_sub(1).map(NodeId) })
             }
 
-            pub fn node_at_height_from(&self, _tip: NodeId, _height: u32) -> Option<NodeId> {
-                unreachable!("left out (SPECIFICATION 1.7)")
+            pub fn node_at_height_from(&self, tip: NodeId, height: u32) -> Option<NodeId> {
+                (height <= tip.0 && (height as usize) < self.chain.len()).then_some(NodeId(height))
             }
         }
 
@@ -125,26 +130,31 @@ pub mod bitcoin_rs_execution {
 
 pub mod p2p {
     use super::bitcoin_rs_consensus::primitives::Hash256;
+    use super::hashbrown::HashSet;
 
     /// The handed-in values of one call.
     #[derive(Default)]
     pub struct BlockStager {
-        pub byte_headroom: u64,
-        pub count_headroom: u64,
+        /// For bytes and for blocks; where they are missing, the original works them out.
+        pub headrooms: Option<(u64, u64)>,
         pub staged_count: u64,
-        /// Of the greatest height that the tree knows, or of a missing one.
+        pub staged_bytes: u64,
+        /// For a plan.
+        pub staged_hashes: HashSet<Hash256>,
+        /// For an observation: of the greatest height that the tree knows, or of a missing one.
         pub staged_hash: Option<Hash256>,
+        /// The hash that an owned fetch asks about is staged.
         pub staged: bool,
         pub gate_cleared: bool,
     }
 
     impl BlockStager {
-        pub fn byte_headroom(&self) -> usize {
-            self.byte_headroom as usize
+        pub fn byte_headroom(&self) -> Option<usize> {
+            self.headrooms.map(|(bytes, _)| bytes as usize)
         }
 
-        pub fn count_headroom(&self) -> usize {
-            self.count_headroom as usize
+        pub fn count_headroom(&self) -> Option<usize> {
+            self.headrooms.map(|(_, count)| count as usize)
         }
 
         pub fn received_len(&self) -> usize {
@@ -152,15 +162,15 @@ pub mod p2p {
         }
 
         pub fn received_bytes(&self) -> usize {
-            unreachable!("left out (SPECIFICATION 1.7)")
+            self.staged_bytes as usize
         }
 
         pub fn staged_hashes(&self) -> impl Iterator<Item = Hash256> + '_ {
-            self.staged_hash.into_iter()
+            self.staged_hash.into_iter().chain(self.staged_hashes.iter().copied())
         }
 
-        pub fn contains(&self, _hash: &Hash256) -> bool {
-            self.staged
+        pub fn contains(&self, hash: &Hash256) -> bool {
+            self.staged || self.staged_hashes.contains(hash)
         }
 
         pub fn clear_gate_pending(&mut self, _hash: &Hash256) {
@@ -234,6 +244,12 @@ pub mod hashbrown {
 
     #[derive(Clone, Debug)]
     pub struct HashSet<T>(BTreeSet<T>);
+
+    impl<T> Default for HashSet<T> {
+        fn default() -> Self {
+            Self(BTreeSet::new())
+        }
+    }
 
     impl<T: Ord> HashSet<T> {
         pub fn with_capacity(_capacity: usize) -> Self {

@@ -14,8 +14,8 @@ pub enum Change {
     Prepend(&'static str),
     /// Replaces `from`, which occurs `times` times.
     Replace { times: usize, from: &'static str, to: &'static str },
-    /// Replaces the whole body of the function of this name.
-    Body { function: &'static str, to: &'static str },
+    /// Puts a statement before the first of the function of this name.
+    First { function: &'static str, statement: &'static str },
 }
 
 pub struct Substitution {
@@ -74,13 +74,19 @@ pub const SUBSTITUTIONS: &[Substitution] = &[
     },
     Substitution {
         file: WINDOW,
-        change: Change::Body { function: "staged_byte_headroom", to: "{ stager.byte_headroom() }" },
-        reason: "SPECIFICATION 1.6: the staged byte headroom is handed in; the original's formula reads the stager, which is left out",
+        change: Change::First {
+            function: "staged_byte_headroom",
+            statement: "if let Some(handed) = stager.byte_headroom() { return handed; }",
+        },
+        reason: "SPECIFICATION 1.6: the staged byte headroom is handed in; the original's own formula answers where a plan's call says what is staged",
     },
     Substitution {
         file: WINDOW,
-        change: Change::Body { function: "staged_count_headroom", to: "{ stager.count_headroom() }" },
-        reason: "SPECIFICATION 1.6: the staged count headroom is handed in; the formula cannot make every number (it is tied to a setting)",
+        change: Change::First {
+            function: "staged_count_headroom",
+            statement: "if let Some(handed) = stager.count_headroom() { return handed; }",
+        },
+        reason: "SPECIFICATION 1.6: the staged count headroom is handed in, as above; the formula cannot make every number (it is tied to a setting)",
     },
 ];
 
@@ -118,9 +124,9 @@ fn apply(text: &str, change: &Change) -> Result<String, String> {
             }
             Ok(text.replace(from, to))
         }
-        Change::Body { function, to } => {
+        Change::First { function, statement } => {
             let body = body_of(text, function)?;
-            Ok(format!("{}{to}{}", &text[..body.start], &text[body.end..]))
+            Ok(format!("{}{{ {statement}{}", &text[..body.start], &text[body.start + 1..]))
         }
     }
 }

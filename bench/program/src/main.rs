@@ -3,6 +3,7 @@
 
 mod getdata;
 mod ours;
+mod planning;
 mod rows;
 mod subject;
 mod table;
@@ -29,6 +30,9 @@ fn main() {
     match arguments.iter().map(String::as_str).collect::<Vec<_>>()[..] {
         ["count", row @ ("Write" | "Read"), subject, hashes, times] => {
             getdata::count(row, subject, number(hashes), number(times))
+        }
+        ["count", row, subject, staged, times] if row.starts_with("Plan") => {
+            planning::count(row, subject, number(staged), number(times))
         }
         ["count", row, subject, pending, times] => count(row, subject, number(pending), number(times)),
         [rounds, results, picture] => run(number(rounds), results, picture),
@@ -71,7 +75,8 @@ fn run(rounds: usize, results: &str, picture: &str) {
         let rust = ns(&mut twin);
         medians.insert((Row::Check, pending), Medians { ours: ns(&mut proved), own_maps: rust, cheap: rust });
     }
-    let results_text = Results { medians, payloads: getdata::measured(&timer, rounds), rounds, load };
+    let (plans, grown) = planning::measured(&timer, rounds);
+    let results_text = Results { medians, payloads: getdata::measured(&timer, rounds), plans, grown, rounds, load };
     let text = results_text.text();
     println!("{text}");
     std::fs::write(results, text).expect("the results are written");

@@ -1,6 +1,6 @@
 //! The library, as a host in C or Rust calls it.
 
-use crate::subject::{Entry, SETTINGS, Subject};
+use crate::subject::{Entry, Lent as LentLists, SETTINGS, Subject, counts_with};
 
 #[repr(C)]
 #[derive(Clone, Copy)]
@@ -41,6 +41,15 @@ struct Blocked {
     others: [u64; 7],
 }
 
+#[repr(C)]
+#[derive(Default)]
+struct Next {
+    refused: u64,
+    places: u64,
+    count: u64,
+    next_height: u64,
+}
+
 type Words = *mut u64;
 type Lent = *const u64;
 type Report = *mut Release;
@@ -65,6 +74,8 @@ unsafe extern "C" {
     fn kofudile_has_request_capacity(w: Lent, n: usize, byte_headroom: u64, count_headroom: u64) -> Two;
     fn kofudile_max_pending_blocks(w: Lent, n: usize) -> Two;
     fn kofudile_pending_len(w: Lent, n: usize) -> Two;
+    fn kofudile_request_cursor(w: Lent, n: usize) -> Two;
+    fn kofudile_next_peer_request_words(w: Words, n: usize, r: Report, places: usize, plan_hash_words: Words, plan_hash_words_len: usize, plan_heights: *mut u32, plan_heights_len: usize, source: u64, chain_words: Lent, chain_words_len: usize, tip: u32, start: u32, best: u32, floor: u32, staged_words: Lent, staged_words_len: usize, refused_words: Lent, refused_words_len: usize, exhausted: bool, byte_headroom: u64, count_headroom: u64, clock: u64) -> Next;
 }
 
 /// On a page of its own: times depend on how the words lie.
@@ -74,12 +85,26 @@ struct Page([u64; 4096]);
 pub struct Ours {
     words: Box<Page>,
     report: Vec<Release>,
+    /// Lent for a plan: its hashes and heights; and what the last one answered.
+    plan_hashes: Vec<u64>,
+    plan_heights: Vec<u32>,
+    planned: Next,
+}
+
+/// A plan's lists in words.
+pub struct Lists {
+    chain: Vec<u64>,
+    tip: u32,
+    start: u32,
+    staged: Vec<u64>,
+    refused: Vec<u64>,
 }
 
 pub struct Request {
     owner: u64,
     hashes: Vec<u64>,
     heights: Vec<u32>,
+    next: u32,
 }
 
 const N: usize = 4096;
@@ -90,7 +115,13 @@ impl Ours {
     pub fn over(words: &[u64]) -> Self {
         let mut page = Box::new(Page([0; N]));
         page.0.copy_from_slice(words);
-        Self { words: page, report: vec![Release([0; 9]); PLACES] }
+        Self {
+            words: page,
+            report: vec![Release([0; 9]); PLACES],
+            plan_hashes: vec![0; 4 * PLACES],
+            plan_heights: vec![0; PLACES],
+            planned: Next::default(),
+        }
     }
 
     pub fn words(&self) -> &[u64] {
@@ -125,10 +156,12 @@ impl Subject for Ours {
     type Peer = u64;
     type Moment = u64;
     type Request = Request;
+    type Lists = Lists;
+    type Kept = Vec<u64>;
 
-    fn open() -> Self {
+    fn open_with(batch_limit: usize) -> Self {
         let mut ours = Self::over(&[0; N]);
-        let (counts, durations) = SETTINGS;
+        let (counts, durations) = (counts_with(batch_limit), SETTINGS.1);
         let mut settings = [0; 12];
         for (setting, value) in settings.iter_mut().zip(counts.iter().map(|count| *count as u64).chain(durations)) {
             *setting = value;
@@ -150,19 +183,21 @@ impl Subject for Ours {
         clock
     }
 
-    fn prepare(owner: u8, entries: &[Entry]) -> Request {
+    fn prepare_with(owner: u8, entries: &[Entry], next: u32) -> Request {
         Request {
             owner: owner.into(),
             hashes: entries.iter().flat_map(|(hash, _)| words_of(hash)).collect(),
             heights: entries.iter().map(|(_, height)| *height).collect(),
+            next,
         }
     }
 
     #[inline(always)]
     fn mark_requested(&mut self, request: &Request, now: u64) -> u64 {
-        let Request { owner, hashes, heights } = request;
+        let Request { owner, hashes, heights, next } = request;
         let (w, h, g) = (self.w(), hashes.as_ptr(), heights.as_ptr());
-        let said = unsafe { kofudile_mark_requested_words(w, N, *owner, h, hashes.len(), g, heights.len(), 0, FREE, FREE, now) };
+        let said =
+            unsafe { kofudile_mark_requested_words(w, N, *owner, h, hashes.len(), g, heights.len(), *next, FREE, FREE, now) };
         accepted(said.refused);
         said.value
     }
@@ -270,6 +305,78 @@ impl Subject for Ours {
     fn pending_len(&self) -> u64 {
         unsafe { kofudile_pending_len(self.q(), N) }.value
     }
+
+    fn lists(lent: &LentLists) -> Lists {
+        let words = |hashes: &[[u8; 32]]| hashes.iter().flat_map(words_of).collect();
+        Lists {
+            chain: words(&lent.chain),
+            tip: lent.chain.len() as u32 - 1,
+            start: lent.start,
+            staged: words(&lent.staged),
+            refused: words(&lent.refused),
+        }
+    }
+
+    fn kept(&self) -> Vec<u64> {
+        self.words.0.to_vec()
+    }
+
+    fn restore(&mut self, kept: &Vec<u64>) {
+        self.words.0.copy_from_slice(kept);
+    }
+
+    #[inline(always)]
+    fn next_peer_request(&mut self, lists: &mut Lists, source: u64, now: u64) -> u64 {
+        let (w, r) = (self.w(), self.report.as_mut_ptr());
+        let (h, g) = (self.plan_hashes.as_mut_ptr(), self.plan_heights.as_mut_ptr());
+        let Lists { chain, tip, start, staged, refused } = lists;
+        let (c, s, f) = (chain.as_ptr(), staged.as_ptr(), refused.as_ptr());
+        self.planned = unsafe {
+            kofudile_next_peer_request_words(
+                w,
+                N,
+                r,
+                PLACES,
+                h,
+                4 * PLACES,
+                g,
+                PLACES,
+                source,
+                c,
+                chain.len(),
+                *tip,
+                *start,
+                *tip,
+                0,
+                s,
+                staged.len(),
+                f,
+                refused.len(),
+                false,
+                FREE,
+                FREE,
+                now,
+            )
+        };
+        accepted(self.planned.refused);
+        self.planned.count
+    }
+
+    fn planned(&self) -> (Vec<Entry>, u32) {
+        let hashes = self.plan_hashes.chunks_exact(4).map(bytes_of);
+        let entries = hashes.zip(self.plan_heights.iter().copied()).take(self.planned.count as usize);
+        (entries.collect(), self.planned.next_height as u32)
+    }
+
+    fn request_cursor(&self) -> u64 {
+        unsafe { kofudile_request_cursor(self.q(), N) }.value
+    }
+}
+
+fn bytes_of(words: &[u64]) -> [u8; 32] {
+    let mut bytes = [0; 32];
+    bytes.chunks_exact_mut(8).zip(words).for_each(|(bytes, word)| bytes.copy_from_slice(&word.to_be_bytes()));
+    bytes
 }
 
 fn words_of(hash: &[u8; 32]) -> [u64; 4] {

@@ -8,17 +8,40 @@ pub const SECOND: u64 = 1_000_000_000;
 
 pub type Entry = ([u8; 32], u32);
 
+/// A chain from height 0 to the tip, the least height that is wanted, what is staged and what is refused.
+pub struct Lent {
+    pub chain: Vec<[u8; 32]>,
+    pub start: u32,
+    pub staged: Vec<[u8; 32]>,
+    pub refused: Vec<[u8; 32]>,
+}
+
 pub trait Subject {
     type Hash: Copy;
     type Peer: Copy;
     type Moment: Copy;
     type Request;
+    /// What a plan is made over.
+    type Lists;
+    /// What a plan may change.
+    type Kept;
 
-    fn open() -> Self;
+    /// With the batch limit that is said, else by SETTINGS.
+    fn open_with(batch_limit: usize) -> Self;
+    fn open() -> Self
+    where
+        Self: Sized,
+    {
+        Self::open_with(SETTINGS.0[6])
+    }
     fn hash(bytes: [u8; 32]) -> Self::Hash;
     fn peer(seat: u8) -> Self::Peer;
     fn moment(&self, clock: u64) -> Self::Moment;
-    fn prepare(owner: u8, entries: &[Entry]) -> Self::Request;
+    fn prepare_with(owner: u8, entries: &[Entry], next: u32) -> Self::Request;
+    /// One that leaves the frontier.
+    fn prepare(owner: u8, entries: &[Entry]) -> Self::Request {
+        Self::prepare_with(owner, entries, 0)
+    }
 
     fn mark_requested(&mut self, request: &Self::Request, now: Self::Moment) -> u64;
     fn mark_owned_fetch(&mut self, owner: Self::Peer, hash: Self::Hash, height: u32, now: Self::Moment) -> u64;
@@ -37,6 +60,22 @@ pub trait Subject {
     fn has_request_capacity(&self) -> u64;
     fn max_pending_blocks(&self) -> u64;
     fn pending_len(&self) -> u64;
+
+    fn lists(lent: &Lent) -> Self::Lists;
+    fn kept(&self) -> Self::Kept;
+    fn restore(&mut self, kept: &Self::Kept);
+    /// How many entries the plan has.
+    fn next_peer_request(&mut self, lists: &mut Self::Lists, source: Self::Peer, now: Self::Moment) -> u64;
+    /// The last plan's entries and next height.
+    fn planned(&self) -> (Vec<Entry>, u32);
+    fn request_cursor(&self) -> u64;
+}
+
+/// The settings with a batch limit.
+pub fn counts_with(batch_limit: usize) -> [usize; 7] {
+    let mut counts = SETTINGS.0;
+    counts[6] = batch_limit;
+    counts
 }
 
 macro_rules! original {
@@ -46,9 +85,11 @@ macro_rules! original {
             type Peer = $build::PeerSource;
             type Moment = Instant;
             type Request = $build::Prepared;
+            type Lists = $build::Lists;
+            type Kept = $build::Kept;
 
-            fn open() -> Self {
-                $build::Original::open(SETTINGS.0, SETTINGS.1)
+            fn open_with(batch_limit: usize) -> Self {
+                $build::Original::open(counts_with(batch_limit), SETTINGS.1)
             }
 
             fn hash(bytes: [u8; 32]) -> Self::Hash {
@@ -63,8 +104,8 @@ macro_rules! original {
                 self.moment(clock)
             }
 
-            fn prepare(owner: u8, entries: &[Entry]) -> Self::Request {
-                $build::Original::prepare(owner, entries, 0)
+            fn prepare_with(owner: u8, entries: &[Entry], next: u32) -> Self::Request {
+                $build::Original::prepare(owner, entries, next)
             }
 
             #[inline(always)]
@@ -155,6 +196,31 @@ macro_rules! original {
 
             fn pending_len(&self) -> u64 {
                 self.pending_len() as u64
+            }
+
+            fn lists(lent: &Lent) -> Self::Lists {
+                $build::Lists::new(&lent.chain, lent.start, &lent.staged, &lent.refused)
+            }
+
+            fn kept(&self) -> Self::Kept {
+                self.kept()
+            }
+
+            fn restore(&mut self, kept: &Self::Kept) {
+                self.restore(kept)
+            }
+
+            #[inline(always)]
+            fn next_peer_request(&mut self, lists: &mut Self::Lists, source: Self::Peer, now: Instant) -> u64 {
+                self.next_peer_request(lists, source, now) as u64
+            }
+
+            fn planned(&self) -> (Vec<Entry>, u32) {
+                self.planned()
+            }
+
+            fn request_cursor(&self) -> u64 {
+                self.request_cursor().into()
             }
         }
     };

@@ -1,6 +1,7 @@
 //! The results as text and as a picture.
 
 use crate::getdata::Times;
+use crate::planning::{GROWING, GROWN_STAGED, GROWN_TIPS, Planned, STAGED, calls};
 use crate::rows::{OWNERS, Row};
 use std::collections::BTreeMap;
 use std::fmt::Write;
@@ -16,6 +17,9 @@ pub struct Medians {
 pub struct Results {
     pub medians: BTreeMap<(Row, usize), Medians>,
     pub payloads: Vec<Times>,
+    /// Plans, and one of them as its lists grow.
+    pub plans: Vec<Planned>,
+    pub grown: Vec<Planned>,
     pub rounds: usize,
     pub load: String,
 }
@@ -54,6 +58,9 @@ fn over_check(row: Row) -> f64 {
 
 /// What getdata's payload may take at most, of the same in Rust.
 const MOST_OF_RUST: f64 = 1.2;
+
+/// What a plan may take at most, of the Rust with its own maps and with the cheap hasher.
+const MOST_OF_PLANS: [f64; 2] = [1.0, 1.5];
 
 /// What was reached of one target.
 struct Reached {
@@ -129,10 +136,60 @@ impl Results {
             };
             let _ = writeln!(text, "| {name} | {target} | {} | {met} |", reached.text);
         }
+        self.plans(&mut text);
+        self.grown(&mut text);
         self.payloads(&mut text);
         self.times(&mut text, [0, 8]);
         self.times(&mut text, [128, 256]);
         text
+    }
+
+    /// The next request.
+    fn plans(&self, text: &mut String) {
+        let [own_most, cheap_most] = MOST_OF_PLANS;
+        let _ = writeln!(text, "\n## The next request, planned\n");
+        let _ = writeln!(
+            text,
+            "16 refused, tip 900,000. Ours / the Rust with its own maps / with a cheap hasher, µs. The target is at most {own_most:.1} … {cheap_most:.1} of the \
+             Rust. Medians of {} calls with 256 staged, of {} with 4,096.\n",
+            self.rounds * calls(STAGED[0]),
+            self.rounds * calls(STAGED[1])
+        );
+        let _ = writeln!(text, "| window | staged | planned | µs | ratio | met |\n|---|---|---|---|---|---|");
+        for Planned { case, staged, entries, medians, .. } in &self.plans {
+            let (own, cheap) = (medians.ours / medians.own_maps, medians.ours / medians.cheap);
+            let said = |met| if met { "yes" } else { "no" };
+            let met = format!("{} … {}", said(own <= own_most), said(cheap <= cheap_most));
+            let _ = writeln!(
+                text,
+                "| {} | {} | {entries} | {} | {own:.2} … {cheap:.2} | {} |",
+                case.name,
+                thousands(*staged),
+                three(medians),
+                if case.aimed { &met } else { "no target" }
+            );
+        }
+    }
+
+    /// One case as its lists grow.
+    fn grown(&self, text: &mut String) {
+        let _ = writeln!(text, "\n### As the lists grow\n");
+        let _ = writeln!(
+            text,
+            "{}, none swept, as above, µs. Medians of {} calls with nothing staged, of {} with most.\n",
+            GROWING.name,
+            self.rounds * calls(0),
+            self.rounds * calls(GROWN_STAGED[GROWN_STAGED.len() - 1])
+        );
+        let tips = GROWN_TIPS.map(|tip| format!("tip {}", thousands(tip)));
+        let _ = writeln!(text, "| staged | {} | {} |\n|---|---|---|", tips[0], tips[1]);
+        for staged in GROWN_STAGED {
+            let cell = |tip| {
+                let found = self.grown.iter().find(|planned| (planned.staged, planned.tip) == (staged, tip));
+                found.map_or("–".to_string(), |planned| three(&planned.medians))
+            };
+            let _ = writeln!(text, "| {} | {} | {} |", thousands(staged), cell(GROWN_TIPS[0]), cell(GROWN_TIPS[1]));
+        }
     }
 
     /// getdata's payload, which needs no window.
@@ -167,7 +224,7 @@ impl Results {
             let cell = |pending| {
                 self.at(row, pending).map_or("–".to_string(), |m| match row {
                     Row::Check => format!("{} / {}", short(m.ours), short(m.own_maps)),
-                    _ => format!("{} / {} / {}", short(m.ours), short(m.own_maps), short(m.cheap)),
+                    _ => three(&m),
                 })
             };
             let _ = writeln!(text, "| {name} | {} | {} |", cell(few), cell(many));
@@ -242,6 +299,15 @@ impl Results {
         }
         svg + "</svg>\n"
     }
+}
+
+fn three(m: &Medians) -> String {
+    format!("{} / {} / {}", short(m.ours), short(m.own_maps), short(m.cheap))
+}
+
+/// With a comma.
+fn thousands(number: usize) -> String {
+    if number < 1_000 { number.to_string() } else { format!("{},{:03}", number / 1_000, number % 1_000) }
 }
 
 fn short(ns: f64) -> String {

@@ -1,4 +1,5 @@
-// What a call is refused by: the numbers of SPECIFICATION 4.1, the lowest first, or 0. Of a request's list, 7 and 8, see `request_calls`.
+// What a call is refused by: the numbers of SPECIFICATION 4.1, the lowest first, or 0. Of a request's list, 7 and 8, see `request_calls`; of the lists
+// of a plan, 12 and then 10, see `plan_calls`.
 ghost use mathlib.Core.Path.{_≡_};
 ghost use mathlib.Core.Bool.{true, false};
 ghost use Rattle.model.specs.Numbers.{clock-ok};

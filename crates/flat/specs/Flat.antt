@@ -21,6 +21,7 @@ use Rattle.flat.specs.declared.FlatPerhapsPair.{FlatPerhapsPair}
 use Rattle.flat.specs.declared.FlatGone.{FlatGone}
 use Rattle.flat.specs.declared.FlatReceived.{FlatReceived}
 use Rattle.flat.specs.declared.FlatRejected.{FlatRejected}
+use Rattle.flat.specs.declared.FlatNextRequest.{FlatNextRequest}
 use Rattle.flat.specs.declared.FlatBlocked.{FlatBlocked}
 use Rattle.flat.specs.declared.FlatPlan.{FlatPlan}
 
@@ -64,6 +65,10 @@ received-flat (says places values) = record { refused = 0; places = places; pres
 abbrev pub rejected-flat : Answer → FlatRejected
 rejected-flat (refused n) = record { refused = n; places = 0; released = 0 }
 rejected-flat (says places values) = record { refused = 0; places = places; released = value values 0 }
+
+abbrev pub next-request-flat : Answer → FlatNextRequest
+next-request-flat (refused n) = record { refused = n; places = 0; count = 0; «next_height» = 0 }
+next-request-flat (says places values) = record { refused = 0; places = places; count = value values 0; «next_height» = value values 1 }
 
 -- the decisions of SPECIFICATION 7.16: 0 none, 1 and 2 blame an owner, 3 evicts, 4 hedges
 abbrev pub blames : List ℕ → FlatBlocked

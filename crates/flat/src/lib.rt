@@ -1,7 +1,7 @@
 // Answers as C structs. `refused` is 0, or the refusal's number, and then every other field is 0.
 ghost use mathlib.Core.Path.{_≡_};
-ghost use Rattle.model.specs.Says.{accepted-says, let-go-says, requested-says, fetch-says, received-says, rejected-says, blocked-says, truth-says, number-says, pair-says, perhaps-says, perhaps-pair-says};
-ghost use Rattle.flat.specs.Flat.{done-flat, number-flat, pair-flat, perhaps-flat, perhaps-pair-flat, gone-flat, received-flat, rejected-flat, blocked-flat, source-if, height-if, sought-if};
+ghost use Rattle.model.specs.Says.{accepted-says, let-go-says, requested-says, fetch-says, received-says, rejected-says, blocked-says, next-request-says, truth-says, number-says, pair-says, perhaps-says, perhaps-pair-says};
+ghost use Rattle.flat.specs.Flat.{done-flat, number-flat, pair-flat, perhaps-flat, perhaps-pair-flat, gone-flat, received-flat, rejected-flat, next-request-flat, blocked-flat, source-if, height-if, sought-if};
 ghost use Rattle.flat.specs.Plans.{plan-numbers};
 ghost use Rattle.heights.specs.Heights.{wide};
 use heights::Height32;
@@ -10,6 +10,7 @@ use model::Blocked;
 use model::Fetch;
 use model::Hash;
 use model::LetGo;
+use model::NextRequest;
 use model::Number;
 use model::Pair;
 use model::Perhaps;
@@ -70,6 +71,14 @@ pub struct FlatRejected {
     pub refused: u64,
     pub places: u64,
     pub released: u64,
+}
+
+#[repr(C)]
+pub struct FlatNextRequest {
+    pub refused: u64,
+    pub places: u64,
+    pub count: u64,
+    pub next_height: u64,
 }
 
 #[repr(C)]
@@ -270,6 +279,31 @@ pub fn of_rejected(a: Rejected) -> FlatRejected
             refused: 0,
             places: 0,
             released: 0,
+        },
+    }
+}
+
+pub fn of_next_request(a: NextRequest) -> FlatNextRequest
+    ensures { λ r. ⌜ r ≡ next-request-flat (next-request-says a) ⌝ }
+{
+    match a {
+        NextRequest::Refused(n) => FlatNextRequest {
+            refused: n,
+            places: 0,
+            count: 0,
+            next_height: 0,
+        },
+        NextRequest::NoRequest(n) => FlatNextRequest {
+            refused: 0,
+            places: n,
+            count: 0,
+            next_height: 0,
+        },
+        NextRequest::Request(n, x, y) => FlatNextRequest {
+            refused: 0,
+            places: n,
+            count: x,
+            next_height: y,
         },
     }
 }

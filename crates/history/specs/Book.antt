@@ -8,7 +8,7 @@ use Rattle.model.specs.Hash.{same}
 use Rattle.model.specs.Window.{Window}
 use Rattle.model.specs.Records.{new-entry}
 use Rattle.model.specs.Calls.{Ask, asks-in, Fetching, held, staged, asked, no-capacity, owned-fetch, opened}
-use Rattle.model.specs.Refusals.{Change, Call, opens, changes, queries, checks, query-checks, refusal-at, opening-refusal, requests, fetches, receives, credits, credits-duplicate, rejects, expires, requeues, releases, retires, retains, marks-unresponsive, confirms-probe, confirms-hedge, observes, sets-fanout, clears-preferred}
+use Rattle.model.specs.Refusals.{Change, Call, opens, changes, queries, checks, query-checks, refusal-at, opening-refusal, requests, fetches, receives, credits, credits-duplicate, rejects, expires, requeues, releases, retires, retains, marks-unresponsive, confirms-probe, confirms-hedge, observes, sets-fanout, clears-preferred, plans, plans-retry}
 use Rattle.model.specs.Perform.{moment-of, changed, does}
 use Rattle.model.specs.declared.Hash.{Hash}
 use Rattle.model.specs.declared.Entry.{Entry}
@@ -101,6 +101,9 @@ opens-entries (confirms-hedge owner alternate h) now w = []
 opens-entries (observes c l) now w = []
 opens-entries (sets-fanout c n) now w = []
 opens-entries clears-preferred now w = []
+-- a plan opens nothing: its entries are opened once the request is marked
+opens-entries (plans c source l hash-words heights) now w = []
+opens-entries (plans-retry c source l hash-words heights) now w = []
 
 -- the lines after the call i, by its refusal (0 for none): an accepted opening empties the book, a refused call and a query leave it
 abbrev pub writes : ℕ → ℕ → Call → Window → List Line → List Line

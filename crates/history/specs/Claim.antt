@@ -62,8 +62,8 @@ pub record Claim (first ws : List ℕ) (w : Window) (b : Book) (h : List Done) :
   pub left : ws ≡ left-by first h
   -- a call is answered by a refusal exactly where the definitions refuse it on the words that it found, old, and by their number
   pub refusals : (d : Done) (old : List ℕ) → Made first h d old → Answered (refusal (d .act .call) old (length (d .act .lent))) (d .outcome .answer)
-  -- a refused call leaves words and report as it found them
-  pub refused-leaves : (d : Done) (old : List ℕ) → Made first h d old → (k : ℕ) → d .outcome .answer ≡ refused k → (d .outcome .words ≡ old) × (d .outcome .report ≡ d .act .lent)
+  -- a refused call leaves words and report as it found them, and plans nothing
+  pub refused-leaves : (d : Done) (old : List ℕ) → Made first h d old → (k : ℕ) → d .outcome .answer ≡ refused k → (d .outcome .words ≡ old) × (d .outcome .report ≡ d .act .lent) × (d .outcome .plan ≡ [])
   -- ORDER. SPECIFICATION 3.4: "the delivered one first, the others by rising hash": so stand the n places that an answer counts. Delivered is the
   -- entry that the hash of a delivery had in the words that it found
   pub in-order : (d : Done) (old : List ℕ) → Made first h d old → (n : ℕ) (values : List ℕ) → d .outcome .answer ≡ says n values
@@ -159,7 +159,7 @@ claim-of first b s y made =
       refusals = λ d old m.
           subst (λ (o : Outcome). Answered (refusal (d .act .call) old (length (d .act .lent))) (o .answer)) (sym (made .calls d old m)) (answered (d .act .call) old (d .act .lent));
       refused-leaves = λ d old m.
-          subst (λ (o : Outcome). (k : ℕ) → o .answer ≡ refused k → (o .words ≡ old) × (o .report ≡ d .act .lent)) (sym (made .calls d old m)) (refused-changes-nothing (d .act .call) old (d .act .lent));
+          subst (λ (o : Outcome). (k : ℕ) → o .answer ≡ refused k → (o .words ≡ old) × (o .report ≡ d .act .lent) × (o .plan ≡ [])) (sym (made .calls d old m)) (refused-changes-nothing (d .act .call) old (d .act .lent));
       in-order = λ d old m.
           subst (λ (o : Outcome). (n : ℕ) (values : List ℕ) → o .answer ≡ says n values → InOrder (delivers (d .act .call) (window-of old .queue .pending)) (take n (o .report)))
           (sym (made .calls d old m)) (report-in-order (d .act .call) old (d .act .lent));

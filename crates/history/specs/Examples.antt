@@ -1,28 +1,30 @@
 -- A closed run, by computation: opening, requests of two peers, a delivery, a sweep, a prefix race won, a refused call, a second opening; what the
--- lent words come to, and the book. `after` and `written` open on their own `unfolding` lines all that a run uses, so that a check names just them.
+-- lent words come to, and the book. A short one with a plan. `after` and `written` open on their own `unfolding` lines all that a run uses, so that a check names just them.
 use mathlib.Core.Path.{_≡_, refl, ap, _∙_, subst}
 use mathlib.Core.Logic.{inl}
+use mathlib.Core.Bool.{false}
 use mathlib.Core.List.{List, [], _∷_, map}
 use Prim.Native.Nat.{ℕ}
 use lib.ListN.{length, getD, replicate}
 use lib.Count.{ones}
 use native.Mathlib.Omega.{arith}
 use Rattle.model.specs.Calls.{opened, asks-in, put, puts, raised, started, noted, mark-requested, credit-duplicate-delivery, record-delivery-progress, body-noted, credit-delivery-from, next-mean, mark-received-from}
-use Rattle.model.specs.Capacity.{peer-inflight, effective-peer-inflight, capacity-left, has-request-capacity}
-use Rattle.model.specs.Cooling.{cools, cooling-noted, key-of, mark-peer-unresponsive}
+use Rattle.model.specs.Capacity.{peer-inflight, effective-peer-inflight, capacity-left, has-request-capacity, batch-limit, byte-capacity, compute-request-capacity}
+use Rattle.model.specs.Cooling.{cools, cooling-noted, key-of, mark-peer-unresponsive, peer-in-staller-cooldown}
 use Rattle.model.specs.Hash.{wide, key, same, less, same-hashes, hashes-in}
 use Rattle.model.specs.Layout.{window-of, settings-ok}
 use Rattle.model.specs.LettingGo.{without, remove-pending, gone, kept, total-after, frontier-after, extract, skipped, sweep-reason, is-entry, resets, expire-pending, lost-reason, seats-kept, retain-peer-assignments}
 use Rattle.model.specs.Lists.{all, any, select, count, every}
 use Rattle.model.specs.Numbers.{lesser, greater, clock-ok, read-clock, next-height, present, age}
 use Rattle.model.specs.Pace.{sample-ms, nearer, front-mean-by, decay-floor, decayed, front-recorded, was-front, pace-opened}
-use Rattle.model.specs.Perform.{Answer, refused, requested, changed}
+use Rattle.model.specs.Perform.{Answer, refused, requested, changed, proposes}
+use Rattle.model.specs.Planning.{Lent, heights-from, contiguous-request-entries, first-named, names, is-pending, is-staged, is-refused, is-open, noticed, non-empty-request, swept-asks, expired-request-entries, maybe-rewind-request-frontier, reach, clean-stretch, is-clean, clean-contiguous-peer-request, open-in-reach, candidates, past, next-after, extend-request-by-reverse-scan, scan-of, request-from, request-after, next-peer-request-allowing-retry, next-peer-request}
 use Rattle.model.specs.Races.{plan-limit, insert-by-height, by-height, walk, expected-after, plan-from, prefix-probe-plan, entered, probe-started, confirm-prefix-probe, place-of, all-four, winner, race-won, race-progress, record-prefix-probe-delivery, resolve-cold-front-delivery}
 use Rattle.model.specs.Reasons.{lowers, lowered}
 use Rattle.model.specs.Records.{new-entry, insert, remove, found, lowest, sum, pending-count-for}
-use Rattle.model.specs.Refusals.{Call, opens, changes, requests, receives, expires, confirms-probe, refusal, keys-ok, alternates-ok, listed-once, list-ok, request-refusal, body-refusal, report-ok, refusal-at, opening-refusal}
+use Rattle.model.specs.Refusals.{Call, opens, changes, requests, receives, expires, confirms-probe, plans, plan-refusal, refusal, keys-ok, alternates-ok, listed-once, list-ok, request-refusal, body-refusal, report-ok, refusal-at, opening-refusal}
 use Rattle.model.specs.Seats.{oldest, reset-owner-queue-start, active-downloading-peers, keep-seats}
-use Rattle.model.specs.Time.{owner-timeout, expired, effective-owner-timeout, active}
+use Rattle.model.specs.Time.{owner-timeout, expired, effective-owner-timeout, active, owner-download-expired, peer-has-expired-pending}
 use Rattle.model.specs.Window.{Window}
 use Rattle.model.specs.declared.Hash.{Hash}
 use Rattle.model.specs.declared.Release.{Release}
@@ -34,7 +36,7 @@ use Rattle.history.specs.Claim.{Claim, the-book-adds-up}
 use Rattle.history.specs.Book.{Book, opened-lines, pending-lines, gone-lines, marks, mark, mark-all, add-lines, entries-of, book-step, book, new-book}
 
 written : List Act → Book → Book
-unfolding ones book book-step mark mark-all add-lines entries-of opened asks-in put puts raised started noted mark-requested credit-duplicate-delivery record-delivery-progress body-noted credit-delivery-from next-mean mark-received-from peer-inflight effective-peer-inflight capacity-left has-request-capacity cools cooling-noted key-of mark-peer-unresponsive wide key same less same-hashes hashes-in settings-ok without remove-pending gone kept total-after frontier-after extract skipped sweep-reason is-entry resets expire-pending lost-reason seats-kept retain-peer-assignments all any select count every lesser greater clock-ok read-clock next-height present age sample-ms nearer front-mean-by decay-floor decayed front-recorded was-front pace-opened requested changed plan-limit insert-by-height by-height walk expected-after plan-from prefix-probe-plan entered probe-started confirm-prefix-probe place-of all-four winner race-won race-progress record-prefix-probe-delivery resolve-cold-front-delivery lowers lowered new-entry insert remove found lowest sum pending-count-for keys-ok alternates-ok listed-once list-ok request-refusal body-refusal report-ok refusal-at opening-refusal oldest reset-owner-queue-start active-downloading-peers keep-seats owner-timeout expired effective-owner-timeout active
+unfolding ones book book-step mark mark-all add-lines entries-of opened asks-in put puts raised started noted mark-requested credit-duplicate-delivery record-delivery-progress body-noted credit-delivery-from next-mean mark-received-from peer-inflight effective-peer-inflight capacity-left has-request-capacity cools cooling-noted key-of mark-peer-unresponsive wide key same less same-hashes hashes-in settings-ok without remove-pending gone kept total-after frontier-after extract skipped sweep-reason is-entry resets expire-pending lost-reason seats-kept retain-peer-assignments all any select count every lesser greater clock-ok read-clock next-height present age sample-ms nearer front-mean-by decay-floor decayed front-recorded was-front pace-opened requested changed plan-limit insert-by-height by-height walk expected-after plan-from prefix-probe-plan entered probe-started confirm-prefix-probe place-of all-four winner race-won race-progress record-prefix-probe-delivery resolve-cold-front-delivery lowers lowered new-entry insert remove found lowest sum pending-count-for keys-ok alternates-ok listed-once list-ok request-refusal body-refusal report-ok refusal-at opening-refusal oldest reset-owner-queue-start active-downloading-peers keep-seats owner-timeout expired effective-owner-timeout active owner-download-expired peer-has-expired-pending peer-in-staller-cooldown batch-limit byte-capacity compute-request-capacity proposes plan-refusal heights-from contiguous-request-entries first-named names is-pending is-staged is-refused is-open noticed non-empty-request swept-asks expired-request-entries maybe-rewind-request-frontier reach clean-stretch is-clean clean-contiguous-peer-request open-in-reach candidates past next-after extend-request-by-reverse-scan scan-of request-from request-after next-peer-request-allowing-retry next-peer-request
 written acts b = book acts b
 
 settings : Settings
@@ -154,6 +156,44 @@ second = written (opening ∷ []) the-book
 second-empty : (second .lines ≡ []) × (second .own .queue .total ≡ 0)
 unfolding second the-book
 second-empty = (refl, refl)
+
+-- ---- a plan: it opens no line, and what it sweeps is marked
+
+-- heights 0 to 3 of the chain, nothing staged or refused
+said : Lent
+said = record {
+  chain = 0 ∷ 0 ∷ 0 ∷ 9 ∷ 0 ∷ 0 ∷ 0 ∷ 1 ∷ 0 ∷ 0 ∷ 0 ∷ 2 ∷ 0 ∷ 0 ∷ 0 ∷ 3 ∷ [];
+  tip = 3;
+  staged = [];
+  refused = [];
+  start = 1;
+  best = 3;
+  floor = 0;
+  exhausted = false;
+  bytes = 1099511627776;
+  count = 64;
+}
+
+-- seat 4 asks for 1 and 2, and its time is out at 2,000: seat 3's plan sweeps both, and names them again
+planned-calls : List Act
+unfolding act said
+planned-calls =
+    act (changes (requests 10 4 (0 ∷ 0 ∷ 0 ∷ 1 ∷ 0 ∷ 0 ∷ 0 ∷ 2 ∷ []) (1 ∷ 2 ∷ []) 3 0 0))
+    ∷ act (changes (plans 2000 3 said 1024 256))
+    ∷ []
+
+planned : Book
+unfolding written planned-calls settings
+planned = written planned-calls (new-book 5 settings (replicate 256 0))
+
+planned-marks : map (λ m. m .call ∷ m .place ∷ m .reason ∷ m .entry .hash .d ∷ []) (marks (planned .lines)) ≡ (2 ∷ 1 ∷ 6 ∷ 2 ∷ []) ∷ (2 ∷ 0 ∷ 6 ∷ 1 ∷ []) ∷ []
+unfolding planned marks
+planned-marks = refl
+
+-- none is opened until the request is marked
+planned-pending : pending-lines (planned .lines) ≡ []
+unfolding planned pending-lines
+planned-pending = refl
 
 -- ---- what the claim rules out: that a call was done, and its answer said that it was refused
 

@@ -11,8 +11,8 @@ use Rattle.model.specs.Records.{new-entry}
 use Rattle.model.specs.Window.{Window, Queue, Step}
 use Rattle.model.specs.Races.{is-empty}
 use Rattle.model.specs.Calls.{Ask, asks-in, put, puts, started, noted, mark-requested, Fetching, held, staged, asked, no-capacity, owned-fetch, fetched, mark-owned-fetch}
-use Rattle.model.specs.Refusals.{Change, checks, report-ok, requests, fetches, receives, credits, credits-duplicate, rejects, expires, requeues, releases, retires, retains, marks-unresponsive, confirms-probe, confirms-hedge, observes, sets-fanout, clears-preferred}
-use Rattle.model.specs.Perform.{change, requested, observed}
+use Rattle.model.specs.Refusals.{Change, checks, report-ok, requests, fetches, receives, credits, credits-duplicate, rejects, expires, requeues, releases, retires, retains, marks-unresponsive, confirms-probe, confirms-hedge, observes, sets-fanout, clears-preferred, plans, plans-retry}
+use Rattle.model.specs.Perform.{change, proposes, requested, observed}
 use Rattle.model.specs.declared.Hash.{Hash}
 use Rattle.model.specs.declared.Entry.{Entry}
 use Rattle.model.specs.declared.Release.{Release}
@@ -24,6 +24,7 @@ use Rattle.laws.specs.Sound.{Sound}
 use Rattle.laws.specs.Lets.{Lets, Steady, requeue-lets, release-lets, retire-lets, expire-lets, retain-owned-lets}
 use Rattle.laws.specs.RacesKept.{unresponsive-steady, confirm-steady, hedge-steady}
 use Rattle.laws.specs.CallsKept.{duplicate-steady, credit-lets, received-lets, reject-lets, fanout-steady, preferred-steady}
+use Rattle.laws.specs.PlansKept.{plans-lets, plans-retry-lets}
 use Rattle.laws.specs.Fits.{FitsChange}
 use Rattle.laws.specs.LooksKept.{observe-steady}
 use Rattle.laws.specs.Kept.{Accepted, body-le, seat-le, change-sound}
@@ -82,7 +83,7 @@ fetched-adds f asked owner h height now w = requested-adds f (record { hash = h;
 
 pub change-moves : (x : Change) (c : ℕ) (w : Window) (room : ℕ) → FitsChange x → Accepted (checks x) w room → Sound c w
     → Moves (opens-entries x c w) (change x c w .gone) (w .queue .pending) (change x c w .window .queue .pending)
-unfolding requested observed mark-owned-fetch
+unfolding requested observed proposes mark-owned-fetch
 change-moves (requests t owner hashes heights next bytes n) c w room f a g =
     let v = mark-requested (asks-in hashes heights) owner next c w in
     record {
@@ -115,6 +116,8 @@ change-moves (confirms-hedge owner alternate h) c w room f a g =
 change-moves (observes t l) c w room f a g = steady-moves g (observe-steady l f g)
 change-moves (sets-fanout t n) c w room f a g = steady-moves g (fanout-steady n g)
 change-moves clears-preferred c w room f a g = steady-moves g (preferred-steady g)
+change-moves (plans t source l hash-words heights) c w room f a g = lets-moves g (plans-lets source l g)
+change-moves (plans-retry t source l hash-words heights) c w room f a g = lets-moves g (plans-retry-lets source l g)
 
 -- ---- what goes fits into the report
 
@@ -127,7 +130,7 @@ lets-room {w = w} {s = s} room g h q =
     omega (arith, picks-weigh one (h .picks), weigh-one (w .queue .pending), weigh-one (s .window .queue .pending), weigh-one (s .gone), g .queue .few, room-le room q)
 
 pub gone-room : (x : Change) (c : ℕ) (w : Window) (room : ℕ) → Accepted (checks x) w room → Sound c w → length (change x c w .gone) ≤ room
-unfolding requested observed
+unfolding requested observed proposes
 gone-room (requests t owner hashes heights next bytes n) c w room a g = omega arith
 gone-room (fetches t owner h height is-staged bytes n) c w room a g = omega arith
 gone-room (receives t h bytes source) c w room a g = lets-room room g (received-lets h bytes source (body-le bytes w (a .content)) g) (a .report)
@@ -145,3 +148,5 @@ gone-room (confirms-hedge owner alternate h) c w room a g = omega arith
 gone-room (observes t l) c w room a g = omega arith
 gone-room (sets-fanout t n) c w room a g = omega arith
 gone-room clears-preferred c w room a g = omega arith
+gone-room (plans t source l hash-words heights) c w room a g = lets-room room g (plans-lets source l g) (a .report)
+gone-room (plans-retry t source l hash-words heights) c w room a g = lets-room room g (plans-retry-lets source l g) (a .report)

@@ -5,7 +5,7 @@ use Prim.Native.Nat.{_<_}
 use Rattle.model.specs.Hash.{key}
 use Rattle.model.specs.Records.{found}
 use Rattle.model.specs.Reasons.{release}
-use Rattle.model.specs.Refusals.{Change, Call, opens, changes, queries, requests, fetches, receives, credits, credits-duplicate, rejects, expires, requeues, releases, retires, retains, marks-unresponsive, confirms-probe, confirms-hedge, observes, sets-fanout, clears-preferred}
+use Rattle.model.specs.Refusals.{Change, Call, opens, changes, queries, requests, fetches, receives, credits, credits-duplicate, rejects, expires, requeues, releases, retires, retains, marks-unresponsive, confirms-probe, confirms-hedge, observes, sets-fanout, clears-preferred, plans, plans-retry}
 use Rattle.model.specs.declared.Entry.{Entry}
 use Rattle.model.specs.declared.Release.{Release}
 use Rattle.model.specs.declared.Front.{Front}
@@ -36,6 +36,8 @@ delivers-of (confirms-hedge owner alternate h) l = Nothing
 delivers-of (observes c look) l = Nothing
 delivers-of (sets-fanout c n) l = Nothing
 delivers-of clears-preferred l = Nothing
+delivers-of (plans c source lent hash-words heights) l = Nothing
+delivers-of (plans-retry c source lent hash-words heights) l = Nothing
 
 abbrev pub delivers : Call → List Entry → Front
 delivers (opens c b keys) l = Nothing

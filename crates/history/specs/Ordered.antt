@@ -22,8 +22,8 @@ use Rattle.model.specs.LettingGo.{if-gone, gone, extract, take-out, remove-pend
 use Rattle.model.specs.Races.{place-of, progressed, winner, race-won, race-by, race-progress, probe-delivery, record-prefix-probe-delivery, hedge-lost, resolve-by, resolve-cold-front-delivery}
 use Rattle.model.specs.Calls.{credit-duplicate-delivery, body-noted, credit-delivery-from, height-of, credit-by, mark-received-from, is-owner, rejected-by, reject-delivery}
 use Rattle.model.specs.Layout.{window-of, is-window}
-use Rattle.model.specs.Refusals.{Change, Call, opens, changes, queries, checks, refusal-at, is-long, window-refusal, refusal, requests, fetches, receives, credits, credits-duplicate, rejects, expires, requeues, releases, retires, retains, marks-unresponsive, confirms-probe, confirms-hedge, observes, sets-fanout, clears-preferred}
-use Rattle.model.specs.Perform.{change, requested, observed, moment-of, changed, does, says, gone-by, answer-by, gone-after, answer-after, perform}
+use Rattle.model.specs.Refusals.{Change, Call, opens, changes, queries, checks, refusal-at, is-long, window-refusal, refusal, requests, fetches, receives, credits, credits-duplicate, rejects, expires, requeues, releases, retires, retains, marks-unresponsive, confirms-probe, confirms-hedge, observes, sets-fanout, clears-preferred, plans, plans-retry}
+use Rattle.model.specs.Perform.{change, proposes, requested, observed, moment-of, changed, does, says, gone-by, answer-by, gone-after, answer-after, perform}
 use Rattle.model.specs.declared.Hash.{Hash}
 use Rattle.model.specs.declared.Entry.{Entry}
 use Rattle.model.specs.declared.Release.{Release}
@@ -41,6 +41,7 @@ use Rattle.laws.specs.Entries.{Rising, rising-weaken}
 use Rattle.laws.specs.Sound.{Sound}
 use Rattle.laws.specs.Batches.{retire-reason, retire-is}
 use Rattle.laws.specs.Lets.{remove-lets}
+use Rattle.laws.specs.PlansKept.{plans-keeps, plans-retry-keeps}
 use Rattle.laws.specs.Kept.{passed, accepted-is, sound-then}
 use Rattle.laws.specs.Words.{words-sound}
 use Rattle.history.specs.Reports.{count-of}
@@ -165,15 +166,23 @@ unfolding retain-owned-by roles-kept
 owned-rises flags w g =
     retain-rises (flagged flags) 8 (roles-kept (flagged flags) w) (probe-kept-rising (flagged flags) (w .races .probe) (keep-seats (flagged flags) 0 (w .races .racers)) _ g)
 
+-- the sweep alone lets go where a request is planned
+abbrev RisingStep : Step → Type 0
+RisingStep s = Rises (s .gone)
+
+swept-rises : (c : ℕ) (w : Window) → Rising 0 (w .queue .pending) → Rises (expire-pending c w .gone)
+unfolding expire-pending extract
+swept-rises c w g = gone-rises _ (w .queue .pending) g
+
 pub change-order : (x : Change) (c : ℕ) (w : Window) → Sound c w → InOrder (delivers-of x (w .queue .pending)) (change x c w .gone)
-unfolding requested observed release-pending requeue-for-retry expire-pending extract
+unfolding requested observed proposes release-pending requeue-for-retry extract
 change-order (requests t owner hashes heights next bytes n) c w g = tt
 change-order (fetches t owner h height is-staged bytes n) c w g = tt
 change-order (receives t h bytes source) c w g = received-order h bytes source c w g
 change-order (credits t h source height) c w g = credit-rises h source height c w (g .queue .rising)
 change-order (credits-duplicate h source) c w g = tt
 change-order (rejects t h source) c w g = reject-rises h source c w
-change-order (expires t) c w g = gone-rises _ (w .queue .pending) (g .queue .rising)
+change-order (expires t) c w g = swept-rises c w (g .queue .rising)
 change-order (requeues t h named) c w g = remove-rises h 3 c w
 change-order (releases t h) c w g = remove-rises h 4 c w
 change-order (retires t height) c w g =
@@ -185,6 +194,8 @@ change-order (confirms-hedge owner alternate h) c w g = tt
 change-order (observes t l) c w g = tt
 change-order (sets-fanout t n) c w g = tt
 change-order clears-preferred c w g = tt
+change-order (plans t source l hash-words heights) c w g = plans-keeps RisingStep l (λ s h. h) source c w tt (swept-rises c w (g .queue .rising))
+change-order (plans-retry t source l hash-words heights) c w g = plans-retry-keeps RisingStep l (λ s h. h) source c w tt (swept-rises c w (g .queue .rising))
 
 -- ---- every call, on any words
 

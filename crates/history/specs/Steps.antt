@@ -10,7 +10,7 @@ use Rattle.model.specs.Window.{Window}
 use Rattle.model.specs.Calls.{opened}
 use Rattle.model.specs.Layout.{encode, window-of}
 use Rattle.model.specs.Refusals.{Change, Call, opens, changes, queries, Checks, checks, query-checks, refusal-at, window-refusal, opening-refusal, refusal}
-use Rattle.model.specs.Perform.{moment-of, changed, says, Outcome, words-by, gone-by, answer-by, words-after, gone-after, answer-after, perform}
+use Rattle.model.specs.Perform.{moment-of, changed, says, Outcome, words-by, gone-by, answer-by, plan-by, words-after, gone-after, answer-after, plan-after, perform}
 use Rattle.model.specs.declared.Release.{Release}
 use Rattle.model.specs.declared.Settings.{Settings}
 use Rattle.laws.specs.Bag.{weigh}
@@ -106,6 +106,7 @@ module _ (x : Change) (lent : List Release) (w : Window) where
     answer = says (length (changed x v .gone)) (changed x v .values);
     words = encode (changed x v .window);
     report = changed x v .gone ++ drop (length (changed x v .gone)) lent;
+    plan = changed x v .plan;
   }
 
   change-goes : (i : ℕ) (ls : List Line) (log : List Mark) → FitsChange x → refusal-at (checks x) w (length lent) ≡ 0 → Inv w ls log
@@ -138,10 +139,11 @@ outcome-by r a ws = record {
   answer = answer-by r (a .call) ws;
   words = words-by r (a .call) ws;
   report = gone-by r (a .call) ws ++ drop (length (gone-by r (a .call) ws)) (a .lent);
+  plan = plan-by r (a .call) ws;
 }
 
 pub performs : (a : Act) (ws : List ℕ) → perform (a .call) ws (a .lent) ≡ outcome-by (refusal (a .call) ws (length (a .lent))) a ws
-unfolding perform words-after gone-after answer-after
+unfolding perform words-after gone-after answer-after plan-after
 performs a ws = refl
 
 goes-by : (r i : ℕ) (c : Call) (lent : List Release) (w : Window) (ls : List Line) (log : List Mark) → Fits c → own-refusal c w (length lent) ≡ r → Inv w ls log

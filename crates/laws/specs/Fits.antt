@@ -2,7 +2,7 @@
 use mathlib.Core.List.{List, [], _∷_}
 use Prim.Native.Nat.{ℕ, _≤_}
 use Rattle.model.specs.Numbers.{max-height}
-use Rattle.model.specs.Refusals.{Change, Call, opens, changes, queries, requests, fetches, receives, credits, credits-duplicate, rejects, expires, requeues, releases, retires, retains, marks-unresponsive, confirms-probe, confirms-hedge, observes, sets-fanout, clears-preferred}
+use Rattle.model.specs.Refusals.{Change, Call, opens, changes, queries, requests, fetches, receives, credits, credits-duplicate, rejects, expires, requeues, releases, retires, retains, marks-unresponsive, confirms-probe, confirms-hedge, observes, sets-fanout, clears-preferred, plans, plans-retry}
 use Rattle.model.specs.declared.Height.{Height}
 use Rattle.model.specs.declared.Height.the-variants.{Unknown, Known}
 
@@ -34,6 +34,8 @@ FitsChange (confirms-hedge owner alternate h) = Unit {0}
 FitsChange (observes c l) = LowHeight (l .next)
 FitsChange (sets-fanout c n) = Unit {0}
 FitsChange clears-preferred = Unit {0}
+FitsChange (plans c source l hash-words heights) = Unit {0}
+FitsChange (plans-retry c source l hash-words heights) = Unit {0}
 
 abbrev pub Fits : Call → Type 0
 Fits (opens c b keys) = Unit {0}

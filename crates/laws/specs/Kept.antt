@@ -12,8 +12,8 @@ use Rattle.model.specs.Lists.{all}
 use Rattle.model.specs.Window.{Window}
 use Rattle.model.specs.Calls.{Ask, asks-in, opened}
 use Rattle.model.specs.Layout.{settings-ok}
-use Rattle.model.specs.Refusals.{Change, Moment, timeless, at, Checks, checks, test, seat-ok, keys-ok, list-ok, request-refusal, body-refusal, moment-ok, report-ok, refusal-at, is-long, opening-refusal, requests, fetches, receives, credits, credits-duplicate, rejects, expires, requeues, releases, retires, retains, marks-unresponsive, confirms-probe, confirms-hedge, observes, sets-fanout, clears-preferred}
-use Rattle.model.specs.Perform.{change, moment-of, changed, requested, observed}
+use Rattle.model.specs.Refusals.{Change, Moment, timeless, at, Checks, checks, test, seat-ok, keys-ok, list-ok, request-refusal, body-refusal, moment-ok, report-ok, refusal-at, is-long, opening-refusal, requests, fetches, receives, credits, credits-duplicate, rejects, expires, requeues, releases, retires, retains, marks-unresponsive, confirms-probe, confirms-hedge, observes, sets-fanout, clears-preferred, plans, plans-retry}
+use Rattle.model.specs.Perform.{change, moment-of, changed, proposes, requested, observed}
 use Rattle.model.specs.declared.Settings.{Settings}
 use Rattle.laws.specs.Numbers.{and-left, and-right}
 use Rattle.laws.specs.Every.{hold, all-first, all-rest}
@@ -23,6 +23,7 @@ use Rattle.laws.specs.Lets.{requeue-lets, release-lets, retire-lets, exp
 use Rattle.laws.specs.RacesKept.{unresponsive-steady, confirm-steady, hedge-steady}
 use Rattle.laws.specs.RequestsKept.{Free, Once, Low, free-is, once-is, requested-sound, owned-fetch-sound}
 use Rattle.laws.specs.CallsKept.{opened-sound, duplicate-steady, credit-lets, received-lets, reject-lets, fanout-steady, preferred-steady}
+use Rattle.laws.specs.PlansKept.{plans-lets, plans-retry-lets}
 use Rattle.laws.specs.LooksKept.{observe-steady}
 use Rattle.laws.specs.Fits.{LowAll, FitsChange}
 
@@ -92,7 +93,7 @@ seat-le s q = leb-true s max-seat q
 -- ---- a change, at its moment
 
 pub change-sound : (x : Change) (c : ℕ) (w : Window) (room : ℕ) → FitsChange x → Accepted (checks x) w room → Sound c w → Sound c (change x c w .window)
-unfolding requested observed
+unfolding requested observed proposes
 change-sound (requests t owner hashes heights next bytes n) c w room f a g =
     let l = asks-in hashes heights in
     let r = requestable-is l w (a .content) in
@@ -114,6 +115,8 @@ change-sound (confirms-hedge owner alternate h) c w room f a g =
 change-sound (observes t l) c w room f a g = observe-steady l f g .sound
 change-sound (sets-fanout t n) c w room f a g = fanout-steady n g .sound
 change-sound clears-preferred c w room f a g = preferred-steady g .sound
+change-sound (plans t source l hash-words heights) c w room f a g = plans-lets source l g .sound
+change-sound (plans-retry t source l hash-words heights) c w room f a g = plans-retry-lets source l g .sound
 
 -- a sound window at the moment of an accepted call
 pub sound-then : (x : Change) (w : Window) (room : ℕ) → Accepted (checks x) w room → Sound (w .clock) w → Sound (moment-of (checks x .moment) (w .clock)) w

@@ -12,6 +12,7 @@ pub mod Every
 pub mod PaceKept
 pub mod RequestsKept
 pub mod CallsKept
+pub mod PlansKept
 pub mod Fits
 pub mod LooksKept
 pub mod Kept

@@ -8,7 +8,7 @@ use lib.ListN.{length, getD, drop, replicate}
 use Rattle.model.specs.Window.{Window}
 use Rattle.model.specs.Layout.{window-of}
 use Rattle.model.specs.Queries.{Query, reads, asks-owner, asks-queue-start, asks-compute-capacity, asks-probe-offered, asks-expired-capacity, asks-request-capacity, asks-contains, asks-count-for, asks-downloading, asks-hedge-offered, asks-has-expired, asks-cooldown}
-use Rattle.model.specs.Refusals.{Change, Call, opens, changes, queries, checks, query-checks, report-ok, refusal-at, window-refusal, refusal, requests, fetches, receives, credits, credits-duplicate, rejects, expires, requeues, releases, retires, retains, marks-unresponsive, confirms-probe, confirms-hedge, observes, sets-fanout, clears-preferred}
+use Rattle.model.specs.Refusals.{Change, Call, opens, changes, queries, checks, query-checks, report-ok, refusal-at, window-refusal, refusal, requests, fetches, receives, credits, credits-duplicate, rejects, expires, requeues, releases, retires, retains, marks-unresponsive, confirms-probe, confirms-hedge, observes, sets-fanout, clears-preferred, plans, plans-retry}
 use Rattle.model.specs.Perform.{Answer, change, changed, requested, observed, does, words-by, gone-by, answer-by, words-after, gone-after, answer-after, perform}
 use Rattle.model.specs.declared.Release.{Release}
 use Rattle.model.specs.declared.Settings.{Settings}
@@ -74,6 +74,8 @@ nothing-goes (confirms-hedge owner alternate h) q now w = refl
 nothing-goes (observes c l) q now w = refl
 nothing-goes (sets-fanout c n) q now w = refl
 nothing-goes clears-preferred q now w = refl
+nothing-goes (plans c source l hash-words heights) q now w = absurd (true≢false q)
+nothing-goes (plans-retry c source l hash-words heights) q now w = absurd (true≢false q)
 
 pub quiet-change : (x : Change) → checks x .lets-go ≡ false → Quiet (changes x)
 unfolding changed

@@ -13,7 +13,7 @@ use Rattle.lines.specs.declared.After.{After}
 -- tenths of a second, and the name of the call
 unfoldable pub begun : ℕ → ℕ → List ℕ
 begun time call =
-    put 8 (getD calls (lesser call 14) [])
+    put 8 (getD calls (lesser call 15) [])
     (put 5 (46 ∷ [])
     (put 6 (column 1 true (time % 10))
     (put 0 (column 5 true (time / 10)) (set (replicate 81 32) 80 10))))
@@ -26,7 +26,7 @@ asked c line =
 -- the answer
 unfoldable pub answered : Said → List ℕ → List ℕ
 answered s line =
-    put 54 (cond (s .refuses) (getD refusals (lesser (s .tail) 9) []) (getD tails (lesser (s .tail) 18) [])) (put 51 (column 3 (s .counts) (s .number)) (put 43 (getD heads (lesser (s .head) 13) []) line))
+    put 54 (cond (s .refuses) (getD refusals (lesser (s .tail) 12) []) (getD tails (lesser (s .tail) 18) [])) (put 51 (column 3 (s .counts) (s .number)) (put 43 (getD heads (lesser (s .head) 15) []) line))
 
 -- the window after the call
 unfoldable pub left : Call → After → List ℕ → List ℕ

@@ -18,6 +18,8 @@ use Rattle.model.specs.declared.Rejected.{Rejected}
 use Rattle.model.specs.declared.Rejected.the-variants.{Refused as Rejected·Refused, ReleasedPending, DiscardedUnsolicited}
 use Rattle.model.specs.declared.Blocked.{Blocked}
 use Rattle.model.specs.declared.Blocked.the-variants.{Refused as Blocked·Refused, NoDecision, BlameStaller, BlamePendingTimeout, EvictStaged, HedgeColdFront}
+use Rattle.model.specs.declared.NextRequest.{NextRequest}
+use Rattle.model.specs.declared.NextRequest.the-variants.{Refused as NextRequest·Refused, NoRequest, Request}
 use Rattle.lines.specs.declared.Said.{Said}
 
 abbrev pub calls : List (List ℕ)
@@ -37,6 +39,7 @@ calls =
     ∷ bytes "confirm_prefix_probe     "
     ∷ bytes "set_fanout_eligible_peers"
     ∷ bytes "clear_preferred_peer     "
+    ∷ bytes "next_peer_request        "
     ∷ []
 
 abbrev pub heads : List (List ℕ)
@@ -55,6 +58,8 @@ heads =
     ∷ bytes "blames  "
     ∷ bytes "evicts  "
     ∷ bytes "hedges  "
+    ∷ bytes "planned "
+    ∷ bytes "no plan "
     ∷ []
 
 -- 0 none; 1 to 10 a reason
@@ -94,6 +99,9 @@ refusals =
     ∷ bytes " is pending"
     ∷ bytes " over 256  "
     ∷ bytes " body size "
+    ∷ bytes " list short"
+    ∷ bytes " payload   "
+    ∷ bytes " chain list"
     ∷ []
 
 -- the lines of the book
@@ -173,3 +181,9 @@ blocked (BlameStaller seat) = counted 11 seat 15
 blocked (BlamePendingTimeout seat) = counted 11 seat 16
 blocked (EvictStaged height h waited) = counted 12 height 17
 blocked (HedgeColdFront seat h) = counted 13 seat 18
+
+-- how many blocks; why the first place of the report was let go
+abbrev pub planned : NextRequest → ℕ → Said
+planned (NextRequest·Refused n) why = refused n
+planned (NoRequest places) why = plain 15 why
+planned (Request places n next) why = counted 14 n why

@@ -38,7 +38,7 @@ fn asked(c: Call, line: [u8; 81]) -> [u8; 81]
 }
 
 fn last_words(refuses: bool, k: usize) -> [u8; 11]
-    ensures { λ r. ⌜ r ≡ cond refuses (getD refusals (lesser k 9) []) (getD tails (lesser k 18) []) ⌝ }
+    ensures { λ r. ⌜ r ≡ cond refuses (getD refusals (lesser k 12) []) (getD tails (lesser k 18) []) ⌝ }
 {
     if refuses {
         return refusal_of(k);

@@ -4,17 +4,18 @@ ghost use mathlib.Core.List.{[]};
 ghost use Prim.Native.Nat.{_≤_};
 ghost use lib.ListN.{getD};
 ghost use Rattle.model.specs.Numbers.{lesser};
-ghost use Rattle.lines.specs.Words.{calls, heads, tails, refusals, entries, verdicts, accepted, requested, fetched, let-go, got, received, rejected, blocked};
+ghost use Rattle.lines.specs.Words.{calls, heads, tails, refusals, entries, verdicts, accepted, requested, fetched, let-go, got, received, rejected, blocked, planned};
 use crate::Said;
 use model::Accepted;
 use model::Blocked;
 use model::Fetch;
 use model::LetGo;
+use model::NextRequest;
 use model::Received;
 use model::Rejected;
 use model::Requested;
 
-const CALLS: [[u8; 25]; 15] = [
+const CALLS: [[u8; 25]; 16] = [
     *b"open                     ",
     *b"mark_requested           ",
     *b"mark_owned_fetch         ",
@@ -30,9 +31,10 @@ const CALLS: [[u8; 25]; 15] = [
     *b"confirm_prefix_probe     ",
     *b"set_fanout_eligible_peers",
     *b"clear_preferred_peer     ",
+    *b"next_peer_request        ",
 ];
 
-const HEADS: [[u8; 8]; 14] = [
+const HEADS: [[u8; 8]; 16] = [
     *b"done    ",
     *b"refused ",
     *b"asked   ",
@@ -47,6 +49,8 @@ const HEADS: [[u8; 8]; 14] = [
     *b"blames  ",
     *b"evicts  ",
     *b"hedges  ",
+    *b"planned ",
+    *b"no plan ",
 ];
 
 // 0 none; 1 to 10 a reason.
@@ -73,7 +77,7 @@ const TAILS: [[u8; 11]; 19] = [
 ];
 
 // By the number of the refusal.
-const REFUSALS: [[u8; 11]; 10] = [
+const REFUSALS: [[u8; 11]; 13] = [
     *b"           ",
     *b" word count",
     *b" no window ",
@@ -84,6 +88,9 @@ const REFUSALS: [[u8; 11]; 10] = [
     *b" is pending",
     *b" over 256  ",
     *b" body size ",
+    *b" list short",
+    *b" payload   ",
+    *b" chain list",
 ];
 
 // The lines of the book.
@@ -114,16 +121,16 @@ fn at_most(k: usize, most: usize) -> usize
 }
 
 pub(crate) fn name_of(call: usize) -> [u8; 25]
-    ensures { λ r. ⌜ r ≡ getD calls (lesser call 14) [] ⌝ }
+    ensures { λ r. ⌜ r ≡ getD calls (lesser call 15) [] ⌝ }
 {
-    let i = at_most(call, 14);
+    let i = at_most(call, 15);
     CALLS[i]
 }
 
 pub(crate) fn head_of(k: usize) -> [u8; 8]
-    ensures { λ r. ⌜ r ≡ getD heads (lesser k 13) [] ⌝ }
+    ensures { λ r. ⌜ r ≡ getD heads (lesser k 15) [] ⌝ }
 {
-    let i = at_most(k, 13);
+    let i = at_most(k, 15);
     HEADS[i]
 }
 
@@ -135,9 +142,9 @@ pub(crate) fn tail_of(k: usize) -> [u8; 11]
 }
 
 pub(crate) fn refusal_of(k: usize) -> [u8; 11]
-    ensures { λ r. ⌜ r ≡ getD refusals (lesser k 9) [] ⌝ }
+    ensures { λ r. ⌜ r ≡ getD refusals (lesser k 12) [] ⌝ }
 {
-    let i = at_most(k, 9);
+    let i = at_most(k, 12);
     REFUSALS[i]
 }
 
@@ -392,6 +399,35 @@ pub fn blocked(a: Blocked) -> Said
             number: seat,
             refuses: false,
             tail: 18,
+        },
+    }
+}
+
+// How many blocks are planned, and why the first place of the report was let go: planning sweeps.
+pub fn planned(a: NextRequest, why: u64) -> Said
+    ensures { λ r. ⌜ r ≡ planned a why ⌝ }
+{
+    match a {
+        NextRequest::Refused(n) => Said {
+            head: 1,
+            counts: true,
+            number: n,
+            refuses: true,
+            tail: n,
+        },
+        NextRequest::NoRequest(places) => Said {
+            head: 15,
+            counts: false,
+            number: 0,
+            refuses: false,
+            tail: why,
+        },
+        NextRequest::Request(places, n, next) => Said {
+            head: 14,
+            counts: true,
+            number: n,
+            refuses: false,
+            tail: why,
         },
     }
 }

@@ -13,6 +13,7 @@ pub mod Reasons
 pub mod LettingGo
 pub mod Races
 pub mod Calls
+pub mod Planning
 pub mod Observation
 pub mod Layout
 pub mod Queries

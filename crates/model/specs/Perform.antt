@@ -10,34 +10,44 @@ use Rattle.model.specs.Capacity.{has-request-capacity}
 use Rattle.model.specs.Cooling.{mark-peer-unresponsive}
 use Rattle.model.specs.LettingGo.{expire-pending, retire-before, retain-owned-by, release-pending, requeue-for-retry}
 use Rattle.model.specs.Races.{confirm-prefix-probe, confirm-cold-front-hedge}
-use Rattle.model.specs.Calls.{asks-in, Fetching, held, staged, asked, no-capacity, opened, mark-requested, owned-fetch, mark-owned-fetch, mark-received-from, credit-delivery-from, credit-duplicate-delivery, reject-delivery, is-owner, set-fanout-eligible-peers, clear-preferred-peer}
+use Rattle.model.specs.Calls.{Ask, asks-in, Fetching, held, staged, asked, no-capacity, opened, mark-requested, owned-fetch, mark-owned-fetch, mark-received-from, credit-delivery-from, credit-duplicate-delivery, reject-delivery, is-owner, set-fanout-eligible-peers, clear-preferred-peer}
+use Rattle.model.specs.Planning.{Proposal, next-peer-request, next-peer-request-allowing-retry}
 use Rattle.model.specs.Observation.{Decision, none, blame-staller, blame-timeout, evict, hedges, Seen, observe-blocked}
 use Rattle.model.specs.Queries.{flag, query-values}
 use Rattle.model.specs.Layout.{encode, window-of}
-use Rattle.model.specs.Refusals.{Change, Call, opens, changes, queries, Moment, timeless, at, checks, refusal, requests, fetches, receives, credits, credits-duplicate, rejects, expires, requeues, releases, retires, retains, marks-unresponsive, confirms-probe, confirms-hedge, observes, sets-fanout, clears-preferred}
+use Rattle.model.specs.Refusals.{Change, Call, opens, changes, queries, Moment, timeless, at, checks, refusal, requests, fetches, receives, credits, credits-duplicate, rejects, expires, requeues, releases, retires, retains, marks-unresponsive, confirms-probe, confirms-hedge, observes, sets-fanout, clears-preferred, plans, plans-retry}
 use Rattle.model.specs.declared.Release.{Release}
 use Rattle.model.specs.declared.Front.{Front}
 use Rattle.model.specs.declared.Front.the-variants.{Nothing, At}
 
 -- ---- what an accepted change does
 
--- the window after it, what went, and the values of its answer
+-- the window after it, what went, the values of its answer, and what it plans to ask for
 pub record Deed : Type 0 where
   pub window : Window
   pub gone : List Release
   pub values : List ℕ
+  pub plan : List Ask
 
 abbrev pub leaves : Window → Deed
-leaves w = record { window = w; gone = []; values = [] }
+leaves w = record { window = w; gone = []; values = []; plan = [] }
 
 abbrev pub answers : Window → List ℕ → Deed
-answers w values = record { window = w; gone = []; values = values }
+answers w values = record { window = w; gone = []; values = values; plan = [] }
 
 abbrev pub reports : Step → Deed
-reports s = record { window = s .window; gone = s .gone; values = [] }
+reports s = record { window = s .window; gone = s .gone; values = []; plan = [] }
 
 abbrev pub reports-with : Step → List ℕ → Deed
-reports-with s values = record { window = s .window; gone = s .gone; values = values }
+reports-with s values = record { window = s .window; gone = s .gone; values = values; plan = [] }
+
+-- how many entries a request has and its next height, where there is one
+abbrev pub plan-values : List Ask → ℕ → List ℕ
+plan-values [] next = []
+plan-values (a ∷ asks) next = length (a ∷ asks) ∷ next ∷ []
+
+unfoldable pub proposes : Proposal → Deed
+proposes p = record { window = p .window; gone = p .gone; values = plan-values (p .asks) (p .next); plan = p .asks }
 
 -- SPECIFICATION 7.3: owned fetch says held, staged, asked or no capacity
 abbrev pub fetch-values : Fetching → List ℕ
@@ -84,6 +94,8 @@ change (confirms-hedge owner alternate h) now w = leaves (confirm-cold-front-hed
 change (observes c l) now w = observed (observe-blocked l now w)
 change (sets-fanout c n) now w = leaves (set-fanout-eligible-peers n now w)
 change clears-preferred now w = leaves (clear-preferred-peer w)
+change (plans c source l hash-words heights) now w = proposes (next-peer-request source l now w)
+change (plans-retry c source l hash-words heights) now w = proposes (next-peer-request-allowing-retry source l now w)
 
 -- the moment of a call; without a clock of its own, the last one
 abbrev pub moment-of : Moment → ℕ → ℕ
@@ -95,7 +107,7 @@ unfoldable pub changed : Change → Window → Deed
 changed x w =
     let now = moment-of (checks x .moment) (w .clock) in
     let d = change x now w in
-    record { window = with-clock now (d .window); gone = d .gone; values = d .values }
+    record { window = with-clock now (d .window); gone = d .gone; values = d .values; plan = d .plan }
 
 -- an opening starts anew, a query writes nothing
 abbrev pub does : Call → Window → Deed
@@ -125,6 +137,10 @@ abbrev pub answer-by : ℕ → Call → List ℕ → Answer
 answer-by zero call ws = says (length (does call (window-of ws) .gone)) (does call (window-of ws) .values)
 answer-by (suc n) call ws = refused (suc n)
 
+abbrev pub plan-by : ℕ → Call → List ℕ → List Ask
+plan-by zero call ws = does call (window-of ws) .plan
+plan-by (suc n) call ws = []
+
 unfoldable pub words-after : Call → List ℕ → ℕ → List ℕ
 words-after call ws room = words-by (refusal call ws room) call ws
 
@@ -134,15 +150,21 @@ gone-after call ws room = gone-by (refusal call ws room) call ws
 unfoldable pub answer-after : Call → List ℕ → ℕ → Answer
 answer-after call ws room = answer-by (refusal call ws room) call ws
 
+unfoldable pub plan-after : Call → List ℕ → ℕ → List Ask
+plan-after call ws room = plan-by (refusal call ws room) call ws
+
 pub record Outcome : Type 0 where
   pub answer : Answer
   pub words : List ℕ
   pub report : List Release
+  pub plan : List Ask
 
--- THE PROMISE of every public function is in these words: what went stands in the report's first places, the others are unchanged
+-- THE PROMISE of every public function is in these words: what went stands in the report's first places, the others are unchanged. What is planned is
+-- written so in the two lists that are lent for it (`written` of `ask-hashes` and of `ask-heights`)
 unfoldable pub perform : Call → List ℕ → List Release → Outcome
 perform call ws rs = record {
   answer = answer-after call ws (length rs);
   words = words-after call ws (length rs);
   report = gone-after call ws (length rs) ++ drop (length (gone-after call ws (length rs))) rs;
+  plan = plan-after call ws (length rs);
 }

@@ -1,5 +1,5 @@
--- Every public call with its arguments, what it checks, and the refusals 1 to 9. Definitions only.
-use Prim.Native.Nat.{ℕ, _+_}
+-- Every public call with its arguments, what it checks, and the refusals 1 to 10 and 12. Definitions only.
+use Prim.Native.Nat.{ℕ, suc, _+_, _*_}
 use mathlib.Core.Bool.{Bool, true, false, cond, not, _&&_}
 use mathlib.Core.List.{List, [], _∷_}
 use lib.ListN.{length}
@@ -11,6 +11,7 @@ use Rattle.model.specs.Hash.{same}
 use Rattle.model.specs.Window.{Window}
 use Rattle.model.specs.Records.{found, is-there}
 use Rattle.model.specs.Calls.{Ask, asks-in}
+use Rattle.model.specs.Planning.{Lent}
 use Rattle.model.specs.Observation.{Look}
 use Rattle.model.specs.Queries.{Query, reads, asks-request-capacity, asks-compute-capacity, asks-expired-capacity, asks-has-expired, asks-cooldown, asks-probe-offered, asks-hedge-offered, asks-contains, asks-owner, asks-downloading, asks-count-for, asks-queue-start}
 use Rattle.model.specs.Layout.{settings-ok, window-of, is-window}
@@ -55,6 +56,10 @@ pub data Change : Type 0 where
   -- c, eligible peers
   sets-fanout : ℕ → ℕ → Change
   clears-preferred : Change
+  -- c, source, what is lent and said for the plan; how many words are lent for its hashes, how many places for its heights
+  plans : ℕ → ℕ → Lent → ℕ → ℕ → Change
+  -- the same, of an expired or cooling source too
+  plans-retry : ℕ → ℕ → Lent → ℕ → ℕ → Change
 
 pub data Call : Type 0 where
   -- c, settings, keys
@@ -69,7 +74,7 @@ pub data Moment : Type 0 where
   timeless : Moment
   at : ℕ → Moment
 
--- whether it lets go on some window, and so wants a report; its clock; whether its peers are in range; what it refuses by its content (7 to 9)
+-- whether it lets go on some window, and so wants a report; its clock; whether its peers are in range; what it refuses by its content (7 to 12)
 pub record Checks : Type 0 where
   pub lets-go : Bool
   pub moment : Moment
@@ -118,6 +123,11 @@ request-refusal l w = test 7 (list-ok l w) (test 8 (leb (length (w .queue .pendi
 unfoldable pub body-refusal : ℕ → Window → ℕ
 body-refusal bytes w = test 9 (leb bytes max-body) 0
 
+-- 12: the chain list is not tip + 1 hashes long; then 10: a plan's list under 256 places
+unfoldable pub plan-refusal : Lent → ℕ → ℕ → Window → ℕ
+plan-refusal l hash-words heights w =
+    test 12 (eqb (length (l .chain)) (4 * suc (l .tip))) (test 10 (every (leb (4 * max-pending) hash-words ∷ leb max-pending heights ∷ [])) 0)
+
 abbrev pub checks : Change → Checks
 checks (requests c owner hashes heights next bytes n) = checking false (at c) (seat-ok owner) (request-refusal (asks-in hashes heights))
 checks (fetches c owner h height is-staged bytes n) = checking false (at c) (seat-ok owner) nothing
@@ -136,6 +146,8 @@ checks (confirms-hedge owner alternate h) = checking false timeless (every (seat
 checks (observes c l) = checking false (at c) true nothing
 checks (sets-fanout c n) = checking false (at c) true nothing
 checks clears-preferred = checking false timeless true nothing
+checks (plans c source l hash-words heights) = checking true (at c) (seat-ok source) (plan-refusal l hash-words heights)
+checks (plans-retry c source l hash-words heights) = checking true (at c) (seat-ok source) (plan-refusal l hash-words heights)
 
 -- a query that takes neither clock nor seat, one that takes a seat
 abbrev pub asks-nothing : Checks
@@ -169,7 +181,7 @@ moment-ok (at c) last = clock-ok last c
 unfoldable pub report-ok : Bool → ℕ → Bool
 report-ok lets-go room = cond lets-go (leb max-pending room) true
 
--- of a window: 3, 4, 6, and 7 to 9; `room` is the report's length
+-- of a window: 3, 4, 6, and 7 to 12; `room` is the report's length
 unfoldable pub refusal-at : Checks → Window → ℕ → ℕ
 refusal-at k w room = test 3 (report-ok (k .lets-go) room) (test 4 (moment-ok (k .moment) (w .clock)) (test 6 (k .peers) (k .content w)))
 

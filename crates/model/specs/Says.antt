@@ -27,6 +27,8 @@ use Rattle.model.specs.declared.Perhaps.{Perhaps}
 use Rattle.model.specs.declared.Perhaps.the-variants as perhaps
 use Rattle.model.specs.declared.PerhapsPair.{PerhapsPair}
 use Rattle.model.specs.declared.PerhapsPair.the-variants as perhaps-pair
+use Rattle.model.specs.declared.NextRequest.{NextRequest}
+use Rattle.model.specs.declared.NextRequest.the-variants as next-request
 use Rattle.model.specs.declared.Plan.{Plan}
 use Rattle.model.specs.declared.Plan.the-variants as plan
 
@@ -96,3 +98,9 @@ abbrev pub plan-says : Plan → List ℕ → Answer
 plan-says (plan.Refused n) hashes = refused n
 plan-says plan.NoPlan hashes = says 0 []
 plan-says (plan.Planned owner n end) hashes = says 0 (owner ∷ n ∷ end ∷ hashes)
+
+-- places filled; where there is a request, the number of its entries and its next height
+abbrev pub next-request-says : NextRequest → Answer
+next-request-says (next-request.Refused n) = refused n
+next-request-says (next-request.NoRequest places) = says places []
+next-request-says (next-request.Request places n next) = says places (n ∷ next ∷ [])

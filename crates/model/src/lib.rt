@@ -210,3 +210,10 @@ pub enum Plan {
     NoPlan,
     Planned(u64, u64, u64),
 }
+
+// What `next_peer_request` answers beside its lists: places filled; where there is a request, the number of its entries and its next height.
+pub enum NextRequest {
+    Refused(u64),
+    NoRequest(u64),
+    Request(u64, u64, u64),
+}

@@ -1,10 +1,12 @@
-// What a host does: a call of the demo's script made on the lent words, one function for each kind of answer. It answers what is said of the call, and the book after it.
+// What a host does: a call of the demo's script made on the lent words, one function for each kind of answer. It answers what is said of the call, the book after it, and the
+// last plan. What is asked of a peer is what was planned for it, as the plan stands in the two lists that are lent for it.
 ghost use mathlib.Core.Path.{_≡_};
 ghost use mathlib.Core.List.{[]};
+ghost use lib.ListN.{length};
 ghost use Rattle.model.specs.Perform.{perform};
 ghost use Rattle.model.specs.Says.{accepted-says, let-go-says};
 ghost use Rattle.lend.specs.Goes.{Goes};
-ghost use Rattle.played.specs.Steps.{asking, fetching, receiving, rejecting, letting-go, letting, looking, changing, doing, play-of, Plays};
+ghost use Rattle.played.specs.Steps.{asking, fetching, receiving, rejecting, letting-go, letting, looking, changing, doing, making, planning, planned-by, kept, Plays, Turns, TurnsBy};
 use heights::Height32;
 use ledger::Book;
 use lend::LetGoWords;
@@ -14,11 +16,18 @@ use model::Sought;
 use model::Source;
 use model::of_release;
 use model::sizes;
+use script::Plan;
 use script::Step;
 
 pub struct Outcome {
     pub said: Said,
     pub book: Book,
+}
+
+pub struct Turn {
+    pub said: Said,
+    pub book: Book,
+    pub plan: Plan,
 }
 
 // More room for staged blocks than the script needs.
@@ -27,21 +36,18 @@ const ROOM: u64 = 1_000_000_000;
 // the reason of the report's second place: the first is the block that came
 const SECOND_REASON: usize = sizes::RELEASE_WORDS + of_release::REASON;
 
-// A request of `count` blocks from the first on, at most eight: as many as are handed in are booked.
-fn ask(words: &mut [u64], b: Book, s: Step) -> Outcome
-    ensures { λ r. ⌜ Plays (asking s) b (now (words .entry)) (now (words .exit)) r ⌝ }
+// The last plan, as it stands in its lists: as many blocks as are handed in are booked.
+fn ask(words: &mut [u64], hashes: &[u64], heights: &[u32], b: Book, p: Plan, s: Step) -> Outcome
+    ensures { λ r. ⌜ Plays (asking s p (now (hashes .entry)) (now (heights .entry))) b (now (words .entry)) (now (words .exit)) r ⌝ }
 {
     let mean = window_queries::ewma_block_bytes(words);
-    let l = script::blocks_of(s.first, s.count);
-    let hashes = l.hashes;
-    let heights = l.heights;
-    let k = l.count;
+    let k = script::at_most(p.count, heights.len());
     let r = window::mark_requested(
         words,
         s.peer,
-        &hashes[..4 * k],
+        hashes,
         &heights[..k],
-        l.next,
+        p.next,
         ROOM,
         ROOM,
         s.clock,
@@ -179,13 +185,13 @@ fn change(words: &mut [u64], b: Book, s: Step) -> Outcome
     }
 }
 
-// One call of the script.
-pub fn act(words: &mut [u64], b: Book, s: Step) -> Outcome
-    ensures { λ r. ⌜ Plays (play-of s) b (now (words .entry)) (now (words .exit)) r ⌝ }
+// Every call but the one that plans.
+fn make(words: &mut [u64], hashes: &[u64], heights: &[u32], b: Book, p: Plan, s: Step) -> Outcome
+    ensures { λ r. ⌜ Plays (making s p (now (hashes .entry)) (now (heights .entry))) b (now (words .entry)) (now (words .exit)) r ⌝ }
 {
     let call = s.call;
     match call {
-        1 => ask(words, b, s),
+        1 => ask(words, hashes, heights, b, p, s),
         2 => fetch(words, b, s),
         3 => receive(words, b, s),
         4 => reject(words, b, s),
@@ -196,5 +202,77 @@ pub fn act(words: &mut [u64], b: Book, s: Step) -> Outcome
             }
             change(words, b, s)
         }
+    }
+}
+
+// The next request of the peer is planned, up to the tip `other`, with room for `count` blocks. Every peer has the tip and all below it; the node refuses no block.
+fn propose(
+    words: &mut [u64],
+    hashes: &mut [u64],
+    heights: &mut [u32],
+    staged: &[u64],
+    b: Book,
+    p: Plan,
+    s: Step,
+) -> Turn
+    ensures { λ r. ⌜
+        Turns (planning s (now (staged .entry)) (length (now (hashes .entry))) (length (now (heights .entry)))) planned-by (kept p (now (hashes .entry)) (now (heights .entry)) (now (staged .entry))) b
+        (now (words .entry)) (now (words .exit)) (now (hashes .exit)) (now (heights .exit)) r
+        ⌝ }
+{
+    let tip = script::height_of(s.other);
+    let n = script::words_to(tip);
+    let chain = script::chain();
+    let l = lend::next_peer_request(
+        words,
+        hashes,
+        heights,
+        s.peer,
+        &chain[..n],
+        tip,
+        s.first,
+        tip,
+        0,
+        staged,
+        &staged[..0],
+        false,
+        ROOM,
+        s.count as u64,
+        s.clock,
+    );
+    let r = l.answer;
+    let gone = l.gone;
+    Turn {
+        said: lines::words::planned(r, gone[of_release::REASON]),
+        book: ledger::let_go(b, gone, l.places),
+        plan: script::planned(r, heights),
+    }
+}
+
+// One call of the script.
+pub fn act(
+    words: &mut [u64],
+    hashes: &mut [u64],
+    heights: &mut [u32],
+    staged: &[u64],
+    b: Book,
+    p: Plan,
+    s: Step,
+) -> Turn
+    ensures { λ r. ⌜
+        TurnsBy s (kept p (now (hashes .entry)) (now (heights .entry)) (now (staged .entry))) b (now (words .entry)) (now (words .exit)) (now (hashes .exit)) (now (heights .exit)) r
+        ⌝ }
+{
+    let call = s.call;
+    if call == 15 {
+        return propose(words, hashes, heights, staged, b, p, s);
+    }
+    let d = make(words, hashes, heights, b, p, s);
+    let said = d.said;
+    let book = d.book;
+    Turn {
+        said,
+        book,
+        plan: p,
     }
 }

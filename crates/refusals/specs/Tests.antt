@@ -10,7 +10,7 @@ use Rattle.model.specs.Layout.{settings-ok, window-of, is-window}
 use Rattle.model.specs.Refusals.{Checks, keys-ok, moment-ok, report-ok, refusal-at, window-refusal, opening-refusal}
 use Rattle.model.specs.declared.Settings.{Settings}
 
--- ---- a call or query on a window: 1, 2, 3, 4, 6, and 7 to 9 by its content
+-- ---- a call or query on a window: 1, 2, 3, 4, 6, and 7 to 12 by its content
 
 module _ (k : Checks) (ws : List ℕ) (room : ℕ) where
   pub refused-1 : (length ws ≡ 4096 → ⊥) → 1 ≡ window-refusal k ws room
@@ -37,7 +37,7 @@ module _ (k : Checks) (ws : List ℕ) (room : ℕ) where
           unfolding window-refusal refusal-at
           refused-6 p = rw (eq-eqb (length ws) 4096 n, v, r, m, p)
 
-          -- 7 to 9, or 0 for none
+          -- 7 to 12, or 0 for none
           pub by-content : k .peers ≡ true → k .content (window-of ws) ≡ window-refusal k ws room
           unfolding window-refusal refusal-at
           by-content p = rw (eq-eqb (length ws) 4096 n, v, r, m, p)

@@ -2,17 +2,19 @@
 // numbers in the columns of its line, what a call is given by them, and the line that is written of it.
 ghost use mathlib.Core.Path.{_≡_};
 ghost use Prim.Native.Nat.{_+_, _*_, _-_, _%_, _≤_, _<_};
-ghost use lib.Dec.{eqb};
+ghost use lib.Dec.{eqb, leb};
 ghost use lib.ListN.{length, getD, set, drop, replicate};
 ghost use Rattle.model.specs.Numbers.{lesser};
 ghost use Rattle.lines.specs.Rows.{row};
 ghost use Rattle.script.specs.Text.{line-length, with-digit, number-in, hash-of, step-of};
-ghost use Rattle.script.specs.Given.{settings, hashes, heights, keys, height-after, blocks-of, call-of, after-of};
+ghost use Rattle.script.specs.Given.{settings, hashes, keys, height-after, height-of, chain, words-to, named, call-of, after-of};
+ghost use Rattle.script.specs.Kept.{plan-of, planned, came, staged-after, words-after};
 use ledger::value;
 use lines::After;
 use lines::Call;
 use lines::Said;
 use model::Hash;
+use model::NextRequest;
 use model::Number;
 use model::Settings;
 
@@ -29,12 +31,19 @@ pub struct Step {
     pub other: u64,
 }
 
-// Up to eight blocks: hashes of four words each, heights, how many are meant, and the height after them.
-pub struct Blocks {
-    pub hashes: [u64; 32],
-    pub heights: [u32; 8],
+// The last plan of a request: how many blocks, the first and the last of them, and the height after it.
+pub struct Plan {
     pub count: usize,
+    pub first: u32,
+    pub last: u32,
     pub next: u32,
+}
+
+// The blocks that a call names: how many, the first and the last.
+pub struct Span {
+    pub count: u64,
+    pub first: u64,
+    pub last: u64,
 }
 
 // ---- a text and its lines
@@ -200,79 +209,182 @@ pub fn hashes_from(first: u32) -> [u64; 32]
 }
 
 // Heights have 32 bits.
+pub fn height_of(n: u64) -> u32
+    ensures { λ r. ⌜ r ≡ height-of n ⌝ }
+{
+    (n % 4_294_967_296) as u32
+}
+
 pub fn height_after(first: u32, n: u64) -> u32
     requires { ⌜ n ≤ 8 ⌝ }
     ensures { λ r. ⌜ r ≡ height-after first n ⌝ }
 {
-    (((first as u64) + n) % 4_294_967_296) as u32
+    height_of((first as u64) + n)
 }
 
-fn heights_from(first: u32) -> [u32; 8]
-    ensures { λ r. ⌜ r ≡ heights 8 first ⌝ }
+pub fn at_most(n: usize, most: usize) -> usize
+    ensures { λ r. ⌜ (r ≡ lesser n most) × (r ≤ most) ⌝ }
 {
-    let mut l: [u32; 8] = [0; 8];
+    if n <= most {
+        return n;
+    }
+    most
+}
+
+// The chain's hashes from block 0 on, of 64 blocks.
+pub fn chain() -> [u64; 256]
+    ensures { λ r. ⌜ r ≡ chain 64 ⌝ }
+{
+    let mut l: [u64; 256] = [0; 256];
     let mut i: usize = 0;
-    while i < 8 {
-        l[i] = height_after(first, i as u64);
+    while i < 64 {
+        l[4 * i + 3] = i as u64;
         i += 1;
     }
     l
 }
 
-fn at_most_eight(n: u32) -> usize
-    ensures { λ r. ⌜ (r ≡ lesser n 8) × (r ≤ 8) ⌝ }
+// How many words of it are lent with a tip; it has no more than 64 blocks.
+pub fn words_to(tip: u32) -> usize
+    ensures { λ r. ⌜ (r ≡ words-to tip) × (r ≤ 256) ⌝ }
 {
-    if n <= 8 {
-        return n as usize;
+    if tip <= 63 {
+        return 4 * (tip as usize + 1);
     }
-    8
+    256
 }
 
-pub fn blocks_of(first: u32, count: u32) -> Blocks
-    ensures { λ r. ⌜ (r ≡ blocks-of first count) × (r .count ≤ 8) × (length (r .hashes) ≡ 32) × (length (r .heights) ≡ 8) ⌝ }
+// ---- what is kept of a call
+
+// Past a list's end 0.
+fn height_at(heights: &[u32], place: usize) -> u32
+    ensures { λ r. ⌜ r ≡ getD (now (heights .entry)) place 0 ⌝ }
 {
-    let hashes = hashes_from(first);
-    let heights = heights_from(first);
-    let n = at_most_eight(count);
-    let next = height_after(first, n as u64);
-    Blocks {
-        hashes,
-        heights,
-        count: n,
-        next,
+    if place >= heights.len() {
+        return 0;
     }
+    heights[place]
+}
+
+fn last_place(count: usize) -> usize
+    ensures { λ r. ⌜ r ≡ count - 1 ⌝ }
+{
+    if count == 0 {
+        return 0;
+    }
+    count - 1
+}
+
+// A plan of so many blocks, whose heights stand in the list.
+fn plan_of(count: u64, next: u64, heights: &[u32]) -> Plan
+    ensures { λ r. ⌜ r ≡ plan-of count next (now (heights .entry)) ⌝ }
+{
+    let n = count as usize;
+    let first = height_at(heights, 0);
+    let last = height_at(heights, last_place(n));
+    let after = height_of(next);
+    Plan {
+        count: n,
+        first,
+        last,
+        next: after,
+    }
+}
+
+// What a call that plans came to. A refused one makes no plan.
+pub fn planned(a: NextRequest, heights: &[u32]) -> Plan
+    ensures { λ r. ⌜ r ≡ planned a (now (heights .entry)) ⌝ }
+{
+    match a {
+        NextRequest::Refused(_) => plan_of(0, 0, heights),
+        NextRequest::NoRequest(_) => plan_of(0, 0, heights),
+        NextRequest::Request(_, n, next) => plan_of(n, next, heights),
+    }
+}
+
+// Whether a block came by a call that was accepted: its body, or by another way.
+fn came(call: usize, refuses: bool) -> bool
+    ensures { λ r. ⌜ r ≡ came call refuses ⌝ }
+{
+    ((call == 3) | (call == 7)) & !refuses
+}
+
+// Whether four words fit behind the first n.
+fn fits_behind(n: usize, len: usize) -> bool
+    ensures { λ r. ⌜ r ≡ leb (n + 4) len ⌝ }
+{
+    if len < 4 {
+        return false;
+    }
+    if n > len - 4 {
+        return false;
+    }
+    true
+}
+
+// A block that came is staged, while there is room: its hash goes behind the first n words of the list, which are blank from there on. Answers how many words there are.
+pub fn stage(staged: &mut [u64], n: usize, s: Step, said: Said) -> usize
+    ensures { λ r. ⌜ (now (staged .exit) ≡ staged-after s said n (now (staged .entry))) × (r ≡ words-after s said n (now (staged .entry))) ⌝ }
+{
+    let block = came(s.call, said.refuses);
+    let room = fits_behind(n, staged.len());
+    if block & room {
+        staged[n + 3] = s.first as u64;
+        return n + 4;
+    }
+    n
 }
 
 // ---- the line that is written of a call
 
-// Of more than eight only eight are named, as `blocks_of` has them.
+// Of more than eight only eight are named: a race is over eight.
 fn last_of(first: u32, count: u32) -> u64
     ensures { λ r. ⌜ r ≡ first + (lesser count 8 - 1) ⌝ }
 {
-    let named = at_most_eight(count);
+    let named = at_most(count as usize, 8);
     if named == 0 {
         return first as u64;
     }
     (first as u64) + ((named - 1) as u64)
 }
 
-fn call_of(s: Step) -> Call
-    ensures { λ r. ⌜ r ≡ call-of s ⌝ }
+// The blocks that a call names; one that plans, or marks what was planned, names those of the plan.
+fn named(s: Step, p: Plan) -> Span
+    ensures { λ r. ⌜ r ≡ named s p ⌝ }
 {
-    let peer = s.peer;
+    let call = s.call;
+    if (call == 1) | (call == 15) {
+        return Span {
+            count: p.count as u64,
+            first: p.first as u64,
+            last: p.last as u64,
+        };
+    }
     let first = s.first;
     let count = s.count;
-    let lowest = first as u64;
     let last = last_of(first, count);
+    Span {
+        count: count as u64,
+        first: first as u64,
+        last,
+    }
+}
+
+fn call_of(s: Step, p: Plan) -> Call
+    ensures { λ r. ⌜ r ≡ call-of s p ⌝ }
+{
+    let peer = s.peer;
+    let n = named(s, p);
+    let count = n.count;
     Call {
         time: s.time,
         name: s.call,
         peered: peer > 0,
         peer,
         blocks: count > 0,
-        first: lowest,
+        first: n.first,
         ranged: count > 1,
-        last,
+        last: n.last,
     }
 }
 
@@ -287,10 +399,17 @@ fn after_of(pending: Number, bytes: Number, share: Number) -> After
 }
 
 // A call, its answer, and what the window says after it.
-pub fn row_of(s: Step, said: Said, pending: Number, bytes: Number, share: Number) -> [u8; 81]
-    ensures { λ r. ⌜ r ≡ row (call-of s) said (after-of pending bytes share) ⌝ }
+pub fn row_of(
+    s: Step,
+    p: Plan,
+    said: Said,
+    pending: Number,
+    bytes: Number,
+    share: Number,
+) -> [u8; 81]
+    ensures { λ r. ⌜ r ≡ row (call-of s p) said (after-of pending bytes share) ⌝ }
 {
-    let c = call_of(s);
+    let c = call_of(s, p);
     let a = after_of(pending, bytes, share);
     lines::rows::row(c, said, a)
 }

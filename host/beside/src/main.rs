@@ -1,6 +1,8 @@
 //! beside CALLS SEED: the oracle's calls through the original and through this crate. Answers and releases are equal, so no argument of a method is
 //! mixed up on its way. The words themselves are oracle/compare's to compare.
 
+mod planning;
+
 use calls::generator::{Generator, Profile};
 use calls::{Answer, Call, Clock, Decision, Entry, Outcome, OwnedFetch, Plan, Reason, Rejection, Release, Window};
 use kofudile::{
@@ -57,6 +59,7 @@ impl Host {
         let said = self
             .change(&mut window, call)
             .or_else(|| self.let_go(&mut window, call))
+            .or_else(|| self.plan(&mut window, call))
             .unwrap_or_else(|| self.query(&window, call));
         self.window = Some(window);
         said

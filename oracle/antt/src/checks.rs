@@ -3,10 +3,14 @@
 use crate::spell;
 use calls::{Answer, BlameReason, Call, Decision, Outcome, OwnedFetch, Plan, Rejection, Release, State};
 use layout::{HEAD, HEAD_USED, entry_words, hash_words};
+use raw::ENOUGH;
 
 /// Places of the lent report in a check by words, and what each holds beforehand, by reason and entry.
 const LENT_PLACES: usize = 258;
 pub const LENT: [u64; 9] = [9, 1, 2, 3, 4, 5, 6, 7, 8];
+
+/// Places of a list that is lent for a plan, past those that a plan may need.
+const PAST: usize = 2;
 
 /// Calls from an opening on, with the original's outcomes.
 pub struct Sequence {
@@ -26,8 +30,13 @@ pub fn sequence(number: usize, sequence: &Sequence) -> String {
 pub fn by_words(number: usize, sequence: &Sequence, place: usize) -> String {
     let earlier = spell::list(spell::calls(&sequence.calls[..place]));
     let (call, outcome) = (&sequence.calls[place], &sequence.outcomes[place]);
-    let expected =
-        [answer_words(call, outcome), layout::encode(&outcome.state), report_words(&outcome.gone)].map(|words| digest(&words));
+    let expected = [
+        answer_words(call, outcome),
+        layout::encode(&outcome.state),
+        report_words(&outcome.gone),
+        lent_plan_words(&outcome.answer),
+    ]
+    .map(|words| digest(&words));
     let arguments = format!("{earlier}) ({}", spell::call(&call.into()));
     theorem(&format!("call-{place}-of-{number}"), "ends", &arguments, &spell::list(expected))
 }
@@ -46,6 +55,8 @@ pub fn digest(words: &[u64]) -> u64 {
 /// No refusal, the answer, what went, and the window.
 fn deed_words(call: &Call, outcome: &Outcome) -> Vec<u64> {
     let mut words = answer_words(call, outcome);
+    let (hashes, heights) = planned(&outcome.answer);
+    words.extend(hashes.into_iter().chain(heights));
     words.extend(outcome.gone.iter().flat_map(release_words));
     words.extend(state_words(&outcome.state));
     words
@@ -55,6 +66,30 @@ fn deed_words(call: &Call, outcome: &Outcome) -> Vec<u64> {
 fn answer_words(call: &Call, outcome: &Outcome) -> Vec<u64> {
     let values = if matches!(call, Call::ExpirePending { .. }) { vec![] } else { values(&outcome.answer) };
     [vec![0, outcome.gone.len() as u64, values.len() as u64], values].concat()
+}
+
+/// The words of a plan's hashes, and its heights.
+fn planned(answer: &Answer) -> (Vec<u64>, Vec<u64>) {
+    let Answer::Proposed(Some(request)) = answer else {
+        return (Vec::new(), Vec::new());
+    };
+    let hashes = request.entries.iter().flat_map(|(hash, _)| hash_words(hash)).collect();
+    (hashes, request.entries.iter().map(|(_, height)| u64::from(*height)).collect())
+}
+
+/// The two lists that are lent for a plan, with what is planned in their first places.
+pub fn lent_plan_words(answer: &Answer) -> Vec<u64> {
+    let (hashes, heights) = planned(answer);
+    let written = |list: Vec<u64>, room: usize| -> Vec<u64> {
+        let rest = pattern(room).skip(list.len()).collect::<Vec<_>>();
+        [list, rest].concat()
+    };
+    [written(hashes, ENOUGH.hash_words + PAST), written(heights, ENOUGH.heights + PAST)].concat()
+}
+
+/// What a lent list of this length holds beforehand.
+fn pattern(length: usize) -> impl Iterator<Item = u64> {
+    (0..length as u64).rev().map(|place| (place * 37 + 11) % 256)
 }
 
 fn report_words(gone: &[Release]) -> Vec<u64> {
@@ -100,6 +135,9 @@ fn values(answer: &Answer) -> Vec<u64> {
         Answer::Rejected(rejection) => vec![(*rejection == Rejection::ReleasedPending).into()],
         Answer::Decided(decision) => decision_values(decision),
         Answer::Planned(plan) => plan.iter().flat_map(plan_values).collect(),
+        Answer::Proposed(request) => {
+            request.iter().flat_map(|request| [request.entries.len() as u64, request.next_request_height.into()]).collect()
+        }
     }
 }
 

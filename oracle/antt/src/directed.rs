@@ -1,14 +1,18 @@
 //! Hand-made sequences, for states that a run of some thousand generated calls may miss.
 
 use crate::checks::Sequence;
-use calls::{Call, Hash, MAX_BYTE_LIMIT, SEATS, Settings, Window};
+use calls::{Call, Clock, Hash, Lent, MAX_BYTE_LIMIT, SEATS, Settings, Window};
 
 /// Each through the given window, the original.
-pub fn sequences(window: &mut dyn Window) -> Vec<Sequence> {
-    let run = |calls: Vec<Call>| {
+fn run(window: &mut dyn Window, all: Vec<Vec<Call>>) -> Vec<Sequence> {
+    let through = |calls: Vec<Call>| {
         let outcomes = calls.iter().map(|call| window.call(call)).collect();
         Sequence { calls, outcomes }
     };
+    all.into_iter().map(through).collect()
+}
+
+pub fn sequences(window: &mut dyn Window) -> Vec<Sequence> {
     // bodies that turn the first mean into 524,288 and 524,289
     let all = [
         few_eligible_peers(),
@@ -22,7 +26,77 @@ pub fn sequences(window: &mut dyn Window) -> Vec<Sequence> {
         fanout_over_a_probe(),
         third_front(),
     ];
-    all.into_iter().map(run).collect()
+    run(window, all.to_vec())
+}
+
+/// Plans. Entries of the seat 3 time out 600 s after the request at 6.
+pub fn plans(window: &mut dyn Window) -> Vec<Sequence> {
+    let late = 600_000_000_006;
+    let over = |length: u8| Lent { chain: (0..length).map(hash).collect(), ..nothing_lent() };
+    let all = vec![
+        // a swept one is refused, under the floor, and the clean stretch above it is not held back
+        vec![open(8), request(&[1]), plan(late, Lent { refused: hashes(&[0]), floor: 2, ..over(9) })],
+        // the same where something is staged: held back
+        vec![open(8), request(&[1]), plan(late, Lent { refused: hashes(&[0]), floor: 2, staged: hashes(&[8]), ..over(9) })],
+        // a chain of one hash, and nothing pending: the start, then above it
+        vec![open(8), plan(6, over(1)), plan(6, Lent { start: 1, ..over(1) }), plan(6, Lent { start: 2, ..over(1) })],
+        // two swept ones at one height, and one at the greatest
+        vec![open(8), request(&[7, u32::MAX, 7]), plan(late, over(4)), plan(late, over(4))],
+        // swept ones above the best, below the start and off the chain
+        vec![open(8), request(&[2, 40, 3]), plan(late, Lent { start: 3, best: 2, ..over(5) })],
+        // room for two blocks by bytes, three swept; then for one more than swept
+        vec![open(8), request(&[2, 3, 4]), plan(late, Lent { byte_headroom: 2 * 262_144, ..over(9) })],
+        vec![open(8), request(&[2, 3, 4]), plan(late, Lent { byte_headroom: 4 * 262_144 + 262_143, ..over(9) })],
+        // by count: none, then one
+        vec![
+            open(8),
+            request(&[2]),
+            plan(late, Lent { count_headroom: 0, ..over(9) }),
+            plan(late, Lent { count_headroom: 1, ..over(9) }),
+        ],
+        // rewound, and nothing is left to name: all but the start are past the best, and the start is refused
+        vec![open(8), plan(6, Lent { start: 0, best: 0, refused: hashes(&[0]), ..over(9) }), Call::RequestCursor],
+        // a refused one among the candidates, below and above what is taken
+        vec![open(8), plan(6, Lent { staged: hashes(&[1]), refused: hashes(&[3]), count_headroom: 3, ..over(9) })],
+        vec![open(8), plan(6, Lent { staged: hashes(&[1]), refused: hashes(&[5]), count_headroom: 3, ..over(9) })],
+        vec![open(8), plan(6, Lent { staged: hashes(&[1]), refused: hashes(&[4]), count_headroom: 3, ..over(9) })],
+        // an expired source: none, and nothing swept; allowing retry: its own again
+        vec![open(8), request(&[2, 3]), of(3, late, over(9)), Call::PendingLen, retry_of(3, late, over(9)), Call::PendingLen],
+        // staged bytes exhausted: nothing swept
+        vec![open(8), request(&[2, 3]), plan(late, Lent { exhausted: true, ..over(9) }), Call::PendingLen],
+    ];
+    run(window, all)
+}
+
+fn nothing_lent() -> Lent {
+    Lent {
+        chain: Vec::new(),
+        staged: Vec::new(),
+        refused: Vec::new(),
+        start: 1,
+        best: u32::MAX,
+        floor: 0,
+        exhausted: false,
+        byte_headroom: u64::MAX,
+        count_headroom: u64::MAX,
+        staging: None,
+    }
+}
+
+fn hashes(indices: &[u8]) -> Vec<Hash> {
+    indices.iter().copied().map(hash).collect()
+}
+
+fn plan(clock: Clock, lent: Lent) -> Call {
+    of(7, clock, lent)
+}
+
+fn of(source: u8, clock: Clock, lent: Lent) -> Call {
+    Call::NextPeerRequest { clock, source, lent }
+}
+
+fn retry_of(source: u8, clock: Clock, lent: Lent) -> Call {
+    Call::NextPeerRequestAllowingRetry { clock, source, lent }
 }
 
 /// Fan-out active with no eligible peer and with one: the share is of one peer, and no other limit hides it.

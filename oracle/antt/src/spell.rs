@@ -2,7 +2,7 @@
 
 use calls::{Call as Reading, Hash, Settings};
 use layout::hash_words;
-use raw::Call;
+use raw::{Call, Lent, Room};
 use std::fmt::Display;
 
 /// `a ∷ b ∷ []`
@@ -103,8 +103,20 @@ fn race_or_look(call: &Call) -> Option<String> {
         }
         Call::SetFanoutEligiblePeers { clock, count } => format!("sets-fanout {clock} {count}"),
         Call::ClearPreferredPeer => "clears-preferred".to_string(),
+        Call::NextPeerRequest { clock, source, lent, room } => format!("plans {clock} {source} {}", lending(lent, *room)),
+        Call::NextPeerRequestAllowingRetry { clock, source, lent, room } => {
+            format!("plans-retry {clock} {source} {}", lending(lent, *room))
+        }
         _ => return None,
     })
+}
+
+/// What is lent for a plan, and how much for the plan itself.
+fn lending(lent: &Lent, room: Room) -> String {
+    let Lent { chain, tip, staged, refused, start, best, floor, exhausted, byte_headroom, count_headroom } = lent;
+    let (chain, staged, refused) = (list(chain), list(staged), list(refused));
+    let said = format!("{start} {best} {floor} {exhausted} {byte_headroom} {count_headroom}");
+    format!("(lending ({chain}) {tip} ({staged}) ({refused}) {said}) {} {}", room.hash_words, room.heights)
 }
 
 fn query(call: &Call) -> String {

@@ -22,6 +22,7 @@ pub fn run(model: &Path) -> io::Result<String> {
         "LettingGo",
         "Races",
         "Calls",
+        "Planning",
         "Observation",
         "Layout",
         "Refusals",
@@ -74,7 +75,7 @@ const TESTS: [(&str, &str, &[(&str, &str)], &str); 10] = [
         "whether a list of words, written as getdata into outputs of these lengths, answers and leaves these",
         "writes-getdata",
         &[("ws", "List ℕ"), ("lengths", "List ℕ")],
-        "written ws lengths",
+        "written-getdata ws lengths",
     ),
     (
         "whether a payload, read into lists of so many words, answers and leaves these",
@@ -100,7 +101,7 @@ fn test(about: &str, name: &str, arguments: &[(&str, &str)], is: &str, opened: &
 }
 
 /// Definitions of `Run.antt` itself, and of the library, that a run opens.
-const OWN: [&str; 28] = [
+const OWN: [&str; 29] = [
     "equal",
     "digest",
     "filled",
@@ -111,6 +112,7 @@ const OWN: [&str; 28] = [
     "deed-words",
     "digests",
     "end-of",
+    "plan-words",
     "outcome-digests",
     "last-by-words",
     "refusals-in",
@@ -123,7 +125,7 @@ const OWN: [&str; 28] = [
     "verdicts",
     "pattern",
     "written-words",
-    "written",
+    "written-getdata",
     "read-words",
     "read-into",
     "read-changed",
@@ -132,7 +134,7 @@ const OWN: [&str; 28] = [
 ];
 
 /// Names that `Run.antt` uses beside the definitions it opens.
-const EXTRA: [(&str, &str); 18] = [
+const EXTRA: [(&str, &str); 19] = [
     ("Layout", "Table"),
     ("Layout", "blank"),
     ("Window", "Window"),
@@ -151,6 +153,7 @@ const EXTRA: [(&str, &str); 18] = [
     ("Perform", "says"),
     ("Perform", "Outcome"),
     ("Observation", "Look"),
+    ("Planning", "Lent"),
 ];
 
 fn unfoldable(text: &str) -> Vec<String> {

@@ -49,6 +49,39 @@ pub struct Settings {
     pub staller_cooldown: u64,
 }
 
+/// What is lent and said for one plan.
+#[derive(Clone, Debug, PartialEq, Eq)]
+pub struct Lent {
+    /// From height 0 to the tip; never empty.
+    pub chain: Vec<Hash>,
+    pub staged: Vec<Hash>,
+    pub refused: Vec<Hash>,
+    /// `request_start_height`, `peer_best_height` and `servable_floor`.
+    pub start: u32,
+    pub best: u32,
+    pub floor: u32,
+    /// `staged_bytes_exhausted`.
+    pub exhausted: bool,
+    /// The two staged headrooms of after the sweep.
+    pub byte_headroom: u64,
+    pub count_headroom: u64,
+    /// Where it is there, the original works the last three out of it by itself, and must find them so.
+    pub staging: Option<Staging>,
+}
+
+impl Lent {
+    pub fn tip(&self) -> u32 {
+        self.chain.len() as u32 - 1
+    }
+}
+
+/// The staged bytes and their limit.
+#[derive(Clone, Copy, Debug, PartialEq, Eq)]
+pub struct Staging {
+    pub bytes: u64,
+    pub limit: u64,
+}
+
 #[derive(Clone, Debug, PartialEq, Eq)]
 pub enum Call {
     // The calls.
@@ -142,6 +175,16 @@ pub enum Call {
         count: u64,
     },
     ClearPreferredPeer,
+    NextPeerRequest {
+        clock: Clock,
+        source: Seat,
+        lent: Lent,
+    },
+    NextPeerRequestAllowingRetry {
+        clock: Clock,
+        source: Seat,
+        lent: Lent,
+    },
     // The queries.
     FanoutActive,
     PendingLen,
@@ -223,7 +266,19 @@ impl Call {
             | Call::MarkPeerUnresponsive { clock, .. }
             | Call::ConfirmPrefixProbe { clock, .. }
             | Call::ObserveBlocked { clock, .. }
-            | Call::SetFanoutEligiblePeers { clock, .. } => Some(*clock),
+            | Call::SetFanoutEligiblePeers { clock, .. }
+            | Call::NextPeerRequest { clock, .. }
+            | Call::NextPeerRequestAllowingRetry { clock, .. } => Some(*clock),
+            _ => None,
+        }
+    }
+
+    /// Of a plan: whose, and what is lent for it.
+    pub fn plan(&self) -> Option<(Clock, Seat, &Lent)> {
+        match self {
+            Call::NextPeerRequest { clock, source, lent } | Call::NextPeerRequestAllowingRetry { clock, source, lent } => {
+                Some((*clock, *source, lent))
+            }
             _ => None,
         }
     }
@@ -264,6 +319,14 @@ pub struct Plan {
     pub end_height: u32,
 }
 
+/// The Rust's `PeerRequest`.
+#[derive(Clone, Debug, PartialEq, Eq)]
+pub struct Request {
+    pub owner: Seat,
+    pub entries: Vec<(Hash, u32)>,
+    pub next_request_height: u32,
+}
+
 #[derive(Clone, Debug, PartialEq, Eq)]
 pub enum Answer {
     Done,
@@ -276,6 +339,7 @@ pub enum Answer {
     Rejected(Rejection),
     Decided(Decision),
     Planned(Option<Plan>),
+    Proposed(Option<Request>),
 }
 
 #[derive(Clone, Copy, Debug, PartialEq, Eq)]

@@ -1,8 +1,11 @@
 //! Seeded sequences of accepted calls that steer, by the state they are shown, towards rare states.
 
+mod planning;
+
 use crate::data::*;
 use crate::random::Random;
 use crate::world::{Theme, World};
+use std::collections::BTreeSet;
 
 /// What kind of run is wanted.
 #[derive(Clone, Copy, Debug)]
@@ -13,11 +16,21 @@ pub struct Profile {
     pub table: u64,
     /// No two hashes of a sequence have one height, so that maps without an order agree too.
     pub distinct_heights: bool,
+    pub planning: Planning,
+}
+
+/// Whether plans are among the calls.
+#[derive(Clone, Copy, Debug, PartialEq, Eq)]
+pub enum Planning {
+    Without,
+    Among,
+    /// In every sequence most calls are plans.
+    Mostly,
 }
 
 impl Default for Profile {
     fn default() -> Self {
-        Self { mean_length: 60, table: 40, distinct_heights: false }
+        Self { mean_length: 60, table: 40, distinct_heights: false, planning: Planning::Among }
     }
 }
 
@@ -52,6 +65,7 @@ enum Action {
     Fanout,
     ClearPreferred,
     Query,
+    NextRequest,
 }
 
 impl Generator {
@@ -66,9 +80,15 @@ impl Generator {
         self.sequences
     }
 
+    /// Two entries have one height, though heights are to be distinct: a plan may ask for a height at which another hash is pending.
+    fn is_spoiled(&self, last: &Outcome) -> bool {
+        let mut heights = BTreeSet::new();
+        self.profile.distinct_heights && !last.state.pending.iter().all(|entry| heights.insert(entry.height))
+    }
+
     /// The next call, after `last` came of the one before; the first of a sequence is an opening.
     pub fn next(&mut self, last: Option<&Outcome>) -> Call {
-        let Some(last) = last.filter(|_| self.left > 0) else {
+        let Some(last) = last.filter(|last| self.left > 0 && !self.is_spoiled(last)) else {
             return self.open();
         };
         self.left -= 1;
@@ -102,11 +122,12 @@ impl Generator {
             Action::Fanout => self.fanout(state),
             Action::ClearPreferred => Call::ClearPreferredPeer,
             Action::Query => self.query(state),
+            Action::NextRequest => self.next_request(state),
         }
     }
 
     fn open(&mut self) -> Call {
-        let theme = Theme::ALL[self.sequences as usize % Theme::ALL.len()];
+        let theme = Theme::of(self.sequences, self.profile.planning);
         self.sequences += 1;
         self.world = World::new(&mut self.random, theme, &self.profile);
         let usual = 1 + self.random.below(2 * self.profile.mean_length);
@@ -118,6 +139,7 @@ impl Generator {
     fn follow_up(&mut self, last: &Outcome) -> Option<Call> {
         match &last.answer {
             Answer::Planned(Some(plan)) if self.random.chance(80) => Some(self.confirm_plan(&last.state, plan)),
+            Answer::Proposed(Some(request)) if self.random.chance(70) => Some(self.mark_planned(&last.state, request)),
             Answer::Decided(Decision::HedgeColdFront { owner, front_hash }) if self.random.chance(75) => {
                 let alternate = if self.random.chance(15) { *owner } else { self.world.other_seat(&mut self.random, *owner) };
                 Some(Call::ConfirmColdFrontHedge { owner: *owner, alternate, hash: *front_hash })
@@ -139,7 +161,7 @@ impl Generator {
     }
 
     /// Weights by theme, raised where the state is on its way to something rare.
-    fn weights(&self, state: &State) -> [(Action, u64); 19] {
+    fn weights(&self, state: &State) -> [(Action, u64); 20] {
         let theme = self.world.theme;
         let pending = state.pending.len() as u64;
         let probe = state.prefix_probe.is_some();
@@ -151,6 +173,8 @@ impl Generator {
         let races = theme == Theme::Races;
         let can_plan = races && state.preferred_peer.is_none() && !probe && pending >= 4;
         let fanout = theme == Theme::Capacity || probe || (races && state.fanout_engaged);
+        let usual = when(pending == 0, 14, when(pending < 2 * self.world.table, 7, 2));
+        let plans = when(theme == Theme::Plans, 90, when(bodies, 1, usual));
         [
             (Action::Request, when(pending == 0, 40, when(pending < self.world.table, 14, 1))),
             (Action::OwnedFetch, 5),
@@ -171,6 +195,7 @@ impl Generator {
             (Action::Fanout, when(fanout, 6, 2)),
             (Action::ClearPreferred, when(state.preferred_peer.is_some(), 6, 1)),
             (Action::Query, when(theme == Theme::Capacity, 25, when(racing, 12, 9))),
+            (Action::NextRequest, when(self.profile.planning == Planning::Without, 0, plans)),
         ]
     }
 
@@ -432,6 +457,10 @@ impl Generator {
         }
         if state.cold_front.is_some() && self.random.chance(40) {
             return Some(Call::HedgeOffered { source, hash });
+        }
+        let planning = self.profile.planning != Planning::Without;
+        if planning && state.owner_downloading_since.len() > 2 && self.random.chance(10) {
+            return Some(Call::EffectiveOwnerTimeout);
         }
         if state.owner_downloading_since.len() > 1 && self.random.chance(15) {
             return Some(Call::PeerHasExpiredPending { source, clock: self.clock(state, &start_deadlines(state)) });

@@ -6,6 +6,7 @@ pub mod data;
 pub mod events;
 pub mod figures;
 pub mod generator;
+pub mod odd;
 pub mod random;
 pub mod select;
 pub mod sound;

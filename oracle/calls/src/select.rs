@@ -24,9 +24,16 @@ struct Sequence {
 }
 
 /// The chosen sequences' numbers: first those that show the most new events a call, until none is
-/// missing, then others in order, up to about `calls` calls.
-pub fn covering(window: &mut dyn Window, seed: u64, profile: Profile, calls: u64) -> BTreeSet<u64> {
-    let sequences = sequences(window, seed, profile);
+/// missing, then others in order, up to about `calls` calls. A sequence with a call that does not fit
+/// is left out.
+pub fn covering(
+    window: &mut dyn Window,
+    seed: u64,
+    profile: Profile,
+    calls: u64,
+    fits: fn(&Call, &Outcome) -> bool,
+) -> BTreeSet<u64> {
+    let sequences = sequences(window, seed, profile, fits);
     let mut chosen = BTreeSet::new();
     let mut shown: Events = Vec::new();
     let mut total = 0;
@@ -63,19 +70,24 @@ pub fn run(
     });
 }
 
-/// Every sequence of the pool with its events; the last one, which may be cut off, is left out.
-fn sequences(window: &mut dyn Window, seed: u64, profile: Profile) -> Vec<Sequence> {
+/// Every sequence of the pool that fits, with its events; the last one, which may be cut off, is left out.
+fn sequences(window: &mut dyn Window, seed: u64, profile: Profile, fits: fn(&Call, &Outcome) -> bool) -> Vec<Sequence> {
     let mut sequences: Vec<Sequence> = Vec::new();
+    let (mut number, mut fit) = (0, true);
     let mut places: BTreeMap<String, usize> = BTreeMap::new();
     let mut tally = Tally::default();
     let mut calls = 0;
     compare::run(window, seed, profile, POOL, |before, call, outcome| {
         if matches!(call, Call::Open { .. }) && before.is_some() {
             let events = as_bits(&std::mem::take(&mut tally), &mut places);
-            sequences.push(Sequence { number: sequences.len() as u64 + 1, calls, events });
-            calls = 0;
+            number += 1;
+            if fit {
+                sequences.push(Sequence { number, calls, events });
+            }
+            (calls, fit) = (0, true);
         }
         calls += 1;
+        fit &= fits(call, outcome);
         events::count(&mut tally, before, call, outcome);
     });
     sequences

@@ -22,6 +22,30 @@ pub fn broken_rules(state: &State) -> Vec<&'static str> {
     rules.iter().filter(|(_, holds)| !holds).map(|(rule, _)| *rule).collect()
 }
 
+/// Which of request 02's promises an answered plan breaks; none, on whatever lists.
+pub fn broken_promises(call: &Call, outcome: &Outcome) -> Vec<&'static str> {
+    let (Some((_, source, lent)), Answer::Proposed(Some(request))) = (call.plan(), &outcome.answer) else {
+        return Vec::new();
+    };
+    let (entries, settings) = (&request.entries, &outcome.state.settings);
+    let none = |listed: &dyn Fn(&Hash) -> bool| entries.iter().all(|(hash, _)| !listed(hash));
+    let twice = |place: usize| entries[..place].iter().any(|(hash, _)| *hash == entries[place].0);
+    let count = entries.len() as u64;
+    let rules: [(&'static str, bool); 10] = [
+        ("a plan is the source's", request.owner == source),
+        ("a plan has entries", count > 0),
+        ("none planned is pending", none(&|hash| outcome.state.entry(*hash).is_some())),
+        ("none planned is staged", none(&|hash| lent.staged.contains(hash))),
+        ("none planned is refused", none(&|hash| lent.refused.contains(hash))),
+        ("none is planned twice", !(0..entries.len()).any(twice)),
+        ("none planned is under the floor", entries.iter().all(|(_, height)| *height >= lent.floor)),
+        ("a plan is within the batch limit", count <= settings.getdata_batch_limit),
+        ("a plan is within the window", outcome.state.pending.len() as u64 + count <= settings.max_pending_blocks),
+        ("the next height is not below the frontier", request.next_request_height >= outcome.state.next_request_height),
+    ];
+    rules.iter().filter(|(_, holds)| !holds).map(|(rule, _)| *rule).collect()
+}
+
 fn estimates_in_range(state: &State) -> bool {
     let range = LEAST_ESTIMATE..=MAX_BODY;
     range.contains(&state.ewma_block_bytes) && state.pending.iter().all(|entry| range.contains(&entry.estimated_bytes))

@@ -1,9 +1,11 @@
 //! Counts of events by name, over the list in oracle/events.txt.
 
+use crate::generator::Planning;
 use std::cmp::Ordering;
 use std::collections::{BTreeMap, BTreeSet};
 
 const LIST: &str = include_str!("../../events.txt");
+const PLANS: &str = "# planning.rs";
 const DOCUMENT: &str = include_str!("../../EVENTS.md");
 
 /// How often each event came.
@@ -54,6 +56,12 @@ impl Tally {
     /// What is wrong: an event that came and is not listed, one at 0 that is not documented as
     /// unreachable, one documented as unreachable that came or is not listed.
     pub fn problems(&self) -> Vec<String> {
+        self.problems_of(Planning::Among)
+    }
+
+    /// The same of a run without plans, or of one that is made of them: the other events may be at 0 there.
+    pub fn problems_of(&self, planning: Planning) -> Vec<String> {
+        let in_question: BTreeSet<String> = listed_of(planning).into_iter().collect();
         let unreachable: BTreeSet<String> = unreachable().into_iter().map(|(name, _)| name).collect();
         let names: BTreeSet<String> = listed().into_iter().collect();
         let mut problems: Vec<String> =
@@ -61,7 +69,7 @@ impl Tally {
         problems.extend(
             unreachable.iter().filter(|name| !names.contains(*name)).map(|name| format!("documented but not listed: {name}")),
         );
-        for (name, count) in self.table() {
+        for (name, count) in self.table().into_iter().filter(|(name, _)| in_question.contains(name)) {
             match (count, unreachable.contains(&name)) {
                 (0, false) => problems.push(format!("at 0: {name}")),
                 (1.., true) => problems.push(format!("documented as unreachable, came {count} times: {name}")),
@@ -78,8 +86,20 @@ impl Tally {
 
 /// The list: `name` is one event, `name ?` two (yes, no), `name <=>` three (less, equal, greater).
 fn listed() -> Vec<String> {
-    let lines = LIST.lines().map(str::trim).filter(|line| !line.is_empty() && !line.starts_with('#'));
+    listed_of(Planning::Among)
+}
+
+/// The events of calls but for plans, those of plans, or both; the list's last part is of plans.
+fn listed_of(planning: Planning) -> Vec<String> {
+    let (others, plans) = LIST.split_once(PLANS).expect("the list has a part for plans");
+    let lines = match planning {
+        Planning::Without => others.lines().chain("".lines()),
+        Planning::Among => others.lines().chain(plans.lines()),
+        Planning::Mostly => "".lines().chain(plans.lines()),
+    };
     lines
+        .map(str::trim)
+        .filter(|line| !line.is_empty() && !line.starts_with('#'))
         .flat_map(|line| {
             let (name, sides): (&str, &[&str]) = if let Some(name) = line.strip_suffix(" <=>") {
                 (name, &[": less", ": equal", ": greater"])

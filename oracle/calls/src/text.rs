@@ -160,8 +160,30 @@ impl Line {
                 self.tokens(&[("call", &"set_fanout_eligible_peers"), ("a.clock", clock), ("a.count", count)]);
             }
             Call::ClearPreferredPeer => self.token("call", "clear_preferred_peer"),
+            Call::NextPeerRequest { clock, source, lent } => self.plan("next_peer_request", *clock, *source, lent),
+            Call::NextPeerRequestAllowingRetry { clock, source, lent } => {
+                self.plan("next_peer_request_allowing_retry", *clock, *source, lent);
+            }
             _ => self.query(call),
         }
+    }
+
+    fn plan(&mut self, name: &str, clock: Clock, source: Seat, lent: &Lent) {
+        self.tokens(&[
+            ("call", &name),
+            ("a.clock", &clock),
+            ("a.source", &source),
+            ("a.chain", &list(&lent.chain, Hash::to_string)),
+            ("a.staged", &list(&lent.staged, Hash::to_string)),
+            ("a.refused", &list(&lent.refused, Hash::to_string)),
+            ("a.start", &lent.start),
+            ("a.best", &lent.best),
+            ("a.floor", &lent.floor),
+            ("a.exhausted", &flag(lent.exhausted)),
+            ("a.byte_headroom", &lent.byte_headroom),
+            ("a.count_headroom", &lent.count_headroom),
+            ("a.staging", &maybe(lent.staging.map(|staging| format!("{}:{}", staging.bytes, staging.limit)))),
+        ]);
     }
 
     fn query(&mut self, call: &Call) {
@@ -291,6 +313,11 @@ fn answer(answer: &Answer) -> String {
         Answer::Decided(Decision::None) => "none".to_string(),
         Answer::Planned(None) => "plan:-".to_string(),
         Answer::Planned(Some(plan)) => format!("plan:{}:{}:{}", plan.owner, plan.end_height, list(&plan.hashes, Hash::to_string)),
+        Answer::Proposed(None) => "request:-".to_string(),
+        Answer::Proposed(Some(request)) => {
+            let entries = list(&request.entries, |(hash, height)| format!("{hash}/{height}"));
+            format!("request:{}:{}:{entries}", request.owner, request.next_request_height)
+        }
     }
 }
 

@@ -1,7 +1,7 @@
 //! The surroundings of one generated sequence: its theme, settings, keys, seats, hashes and heights.
 
 use crate::data::*;
-use crate::generator::Profile;
+use crate::generator::{Planning, Profile};
 use crate::random::Random;
 
 /// What a sequence is drawn towards. Sequences take the themes in turn.
@@ -19,6 +19,7 @@ pub enum Theme {
     LightBodies,
     HeavyBodies,
     LastMoments,
+    Plans,
 }
 
 impl Theme {
@@ -49,6 +50,17 @@ impl Theme {
         Theme::FullTable,
         Theme::HeavyBodies,
     ];
+
+    /// The theme of a sequence, the first of them 0; with plans every sixth is theirs.
+    pub fn of(sequence: u64, planning: Planning) -> Theme {
+        let sequence = sequence as usize;
+        match planning {
+            Planning::Mostly => Theme::Plans,
+            Planning::Among if sequence % 6 == 5 => Theme::Plans,
+            Planning::Among => Theme::ALL[(sequence - sequence / 6) % Theme::ALL.len()],
+            Planning::Without => Theme::ALL[sequence % Theme::ALL.len()],
+        }
+    }
 
     pub fn watches(self) -> bool {
         matches!(self, Theme::ColdFronts | Theme::Stalls | Theme::Stuck | Theme::TimeOuts)
@@ -82,6 +94,33 @@ pub struct World {
     seats: Vec<Seat>,
     hash_style: u64,
     distinct_heights: bool,
+    chain: Chain,
+}
+
+/// The chain that plans are made over: the pool's hashes from one height on, others below and above.
+#[derive(Clone)]
+struct Chain {
+    base: u32,
+    /// From height 0 on; it only grows.
+    length: u32,
+}
+
+/// The indices of the chain's hashes that are not of the pool.
+const OTHERS: u64 = 1 << 20;
+
+impl Chain {
+    /// The pool stands at its own heights, where that makes no long chain for the profile; else low, or, on distinct heights, not at all.
+    fn new(random: &mut Random, base: u32, pool: u64, profile: &Profile) -> Self {
+        if profile.planning == Planning::Without {
+            return Self { base, length: 1 };
+        }
+        let short = u64::from(base) <= 20 * profile.table;
+        let base = if short || profile.distinct_heights { base } else { random.pick(&[0, 1, 3]) };
+        let first = if short || !profile.distinct_heights { base } else { 0 };
+        let some = first + 1 + random.below(pool) as u32;
+        let length = random.pick(&[1, first + 1, first + 2, some, some, some, some, first + pool as u32]);
+        Self { base, length }
+    }
 }
 
 impl World {
@@ -105,6 +144,7 @@ impl World {
         if random.chance(20) {
             seats.extend([0, 255]);
         }
+        let chain = Chain::new(random, base, pool, profile);
         Self {
             theme,
             settings: settings(random, theme),
@@ -116,7 +156,41 @@ impl World {
             seats,
             hash_style: random.below(5),
             distinct_heights: profile.distinct_heights,
+            chain,
         }
+    }
+
+    /// The chain as it stands, from height 0 to the tip.
+    pub fn chain(&self) -> Vec<Hash> {
+        (0..self.chain.length).map(|height| self.chain_hash(height)).collect()
+    }
+
+    /// The height of the pool's first hash on the chain.
+    pub fn chain_base(&self) -> u32 {
+        self.chain.base
+    }
+
+    /// What the chain has, or will have, at a height.
+    pub fn chain_hash(&self, height: u32) -> Hash {
+        match height.checked_sub(self.chain.base) {
+            Some(index) if u64::from(index) < self.pool => self.hash(index.into()),
+            _ => self.hash(OTHERS + u64::from(height) % OTHERS),
+        }
+    }
+
+    /// Sometimes a few hashes more, up to some past the pool's; on distinct heights never as high as other entries.
+    pub fn grow_chain(&mut self, random: &mut Random) {
+        let more = random.pick(&[0, 0, 0, 0, 0, 1, 1, 2, 5, self.pool as u32 / 3]);
+        let pool = self.pool as u32;
+        let most = if self.chain.base > 2_000 { pool } else { self.chain.base + pool + pool / 4 };
+        if self.chain.length < most {
+            self.chain.length += more;
+        }
+    }
+
+    /// A hash that is nowhere on the chain.
+    pub fn stray_hash(&self, random: &mut Random) -> Hash {
+        self.hash(2 * OTHERS + random.below(4))
     }
 
     pub fn seat(&self, random: &mut Random) -> Seat {
@@ -213,7 +287,7 @@ fn settings(random: &mut Random, theme: Theme) -> Settings {
             random.pick(usual)
         }
     };
-    let usual_limits = theme != Theme::Capacity && !wild;
+    let usual_limits = theme != Theme::Capacity && !wild && !(theme == Theme::Plans && random.chance(60));
     let count = |random: &mut Random, usual: u64, odd: &[u64]| -> u64 {
         if usual_limits || random.chance(40) { usual } else { random.pick(odd) }
     };

@@ -2,12 +2,19 @@
 
 use crate::window::Library;
 use calls::events;
-use calls::generator::{Generator, Profile};
+use calls::generator::{Generator, Planning, Profile};
 use calls::tally::Tally;
-use calls::{Call, Outcome, Window, text};
+use calls::{Call, Outcome, Window, sound, text};
 use ordered::Original as Ordered;
 use own_maps::Original as OwnMaps;
 use std::collections::BTreeMap;
+
+/// Plans are among the calls, where the library plans.
+pub const PLANNING: Planning = if cfg!(planning) { Planning::Among } else { Planning::Without };
+
+pub fn profile() -> Profile {
+    Profile { planning: PLANNING, ..Profile::default() }
+}
 
 /// What runs came to.
 #[derive(Default)]
@@ -27,8 +34,8 @@ impl Result {
         for seed in first_seed..first_seed + seeds {
             self.seeds += 1;
             let ordered = calls / seeds / 2;
-            let distinct = Profile { distinct_heights: true, ..Profile::default() };
-            self.beside("ordered maps", &mut Ordered::default(), seed, Profile::default(), ordered);
+            let distinct = Profile { distinct_heights: true, ..profile() };
+            self.beside("ordered maps", &mut Ordered::default(), seed, profile(), ordered);
             self.beside("its own maps", &mut OwnMaps::default(), seed, distinct, calls / seeds - ordered);
         }
     }
@@ -42,7 +49,7 @@ impl Result {
             let theirs = original.call(&call);
             let kind = raw::kind(&raw::Call::from(&call));
             match library.try_call(&call) {
-                Ok(mine) if mine == theirs => {
+                Ok(mine) if mine == theirs && sound::broken_promises(&call, &mine).is_empty() => {
                     events::count(&mut self.tally, last.as_ref(), &call, &mine);
                     self.calls += 1;
                     self.released += mine.gone.len() as u64;

@@ -1,11 +1,11 @@
 //! Damaged memory: random words, windows with one to four words changed, wrong lengths, short reports. Whether the words count as a
 //! window is the independent reader's to say; those that still count are loaded into the original, and calls go through both.
 
-use crate::beside::difference;
+use crate::beside::{difference, profile};
 use crate::refused::answers;
 use crate::window::Library;
 use calls::figures::Loaded;
-use calls::generator::{Generator, Profile};
+use calls::generator::Generator;
 use calls::random::Random;
 use calls::{Answer, Call, Outcome, State, Window};
 use layout::{HEAD, WORDS, decode, encode, is_window};
@@ -35,7 +35,7 @@ impl Damaged {
     pub fn run(&mut self, cases: u64, seed: u64) {
         let mut random = Random::new(seed ^ 0xda3a6ed);
         let mut made = windows::Rng(random.next() | 1);
-        let mut generator = Generator::new(seed, Profile::default());
+        let mut generator = Generator::new(seed, profile());
         let mut original = Original::default();
         let mut last: Option<Outcome> = None;
         for case in 0..cases {

@@ -121,6 +121,15 @@ pub struct Plan {
     pub hashes: [Hash; 8],
 }
 
+#[repr(C)]
+#[derive(Clone, Copy, Debug, PartialEq, Eq)]
+pub struct NextRequest {
+    pub refused: u64,
+    pub places: u64,
+    pub count: u64,
+    pub next_height: u64,
+}
+
 /// A window's words and their number.
 type Words = *mut u64;
 type Lent = *const u64;
@@ -227,6 +236,58 @@ unsafe extern "C" {
     ) -> Blocked;
     pub fn kofudile_set_fanout_eligible_peers(w: Words, n: usize, eligible: u64, clock: u64) -> u64;
     pub fn kofudile_clear_preferred_peer(w: Words, n: usize) -> u64;
+    #[cfg(planning)]
+    pub fn kofudile_next_peer_request_words(
+        w: Words,
+        n: usize,
+        r: Report,
+        places: usize,
+        plan_hash_words: *mut u64,
+        plan_hash_words_len: usize,
+        plan_heights: *mut u32,
+        plan_heights_len: usize,
+        source: u64,
+        chain_words: Lent,
+        chain_words_len: usize,
+        tip: u32,
+        start: u32,
+        best: u32,
+        floor: u32,
+        staged_words: Lent,
+        staged_words_len: usize,
+        refused_words: Lent,
+        refused_words_len: usize,
+        exhausted: bool,
+        byte_headroom: u64,
+        count_headroom: u64,
+        clock: u64,
+    ) -> NextRequest;
+    #[cfg(planning)]
+    pub fn kofudile_next_peer_request_allowing_retry_words(
+        w: Words,
+        n: usize,
+        r: Report,
+        places: usize,
+        plan_hash_words: *mut u64,
+        plan_hash_words_len: usize,
+        plan_heights: *mut u32,
+        plan_heights_len: usize,
+        source: u64,
+        chain_words: Lent,
+        chain_words_len: usize,
+        tip: u32,
+        start: u32,
+        best: u32,
+        floor: u32,
+        staged_words: Lent,
+        staged_words_len: usize,
+        refused_words: Lent,
+        refused_words_len: usize,
+        exhausted: bool,
+        byte_headroom: u64,
+        count_headroom: u64,
+        clock: u64,
+    ) -> NextRequest;
 
     pub fn kofudile_pending_len(w: Lent, n: usize) -> Number;
     pub fn kofudile_pending_bytes(w: Lent, n: usize) -> Number;

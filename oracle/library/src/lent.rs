@@ -3,7 +3,7 @@
 use crate::ffi::*;
 use calls::{Answer, BlameReason, Decision, OwnedFetch, Rejection};
 use layout::hash_words;
-use raw::Call;
+use raw::{Call, Room};
 
 const GUARD: u64 = 0xdead_beef_0bad_cafe;
 /// Elements on either side.
@@ -157,8 +157,56 @@ impl Lent {
                 let (w, n) = self.window();
                 done(unsafe { kofudile_clear_preferred_peer(w, n) })
             }
+            Call::NextPeerRequest { clock, source, lent, room } => self.next_peer_request(*clock, *source, lent, *room, false),
+            Call::NextPeerRequestAllowingRetry { clock, source, lent, room } => {
+                self.next_peer_request(*clock, *source, lent, *room, true)
+            }
             other => self.let_go_or_query(other),
         }
+    }
+
+    #[cfg(not(planning))]
+    fn next_peer_request(&mut self, _: u64, _: u64, _: &raw::Lent, _: Room, _: bool) -> Said {
+        Said::Malformed("the library does not plan".to_string())
+    }
+
+    #[cfg(planning)]
+    fn next_peer_request(&mut self, clock: u64, source: u64, lent: &raw::Lent, room: Room, allowing_retry: bool) -> Said {
+        let (w, n, r, m) = self.lent();
+        let mut planned = Planned::new(room);
+        let (hashes, heights) = (planned.hashes[GUARDS..].as_mut_ptr(), planned.heights[GUARDS..].as_mut_ptr());
+        let (hash_words, height_places) = (room.hash_words, room.heights);
+        let raw::Lent { chain, tip, staged, refused, start, best, floor, exhausted, byte_headroom, count_headroom } = lent;
+        let function =
+            if allowing_retry { kofudile_next_peer_request_allowing_retry_words } else { kofudile_next_peer_request_words };
+        let given = unsafe {
+            function(
+                w,
+                n,
+                r,
+                m,
+                hashes,
+                hash_words,
+                heights,
+                height_places,
+                source,
+                chain.as_ptr(),
+                chain.len(),
+                *tip,
+                *start,
+                *best,
+                *floor,
+                staged.as_ptr(),
+                staged.len(),
+                refused.as_ptr(),
+                refused.len(),
+                *exhausted,
+                *byte_headroom,
+                *count_headroom,
+                clock,
+            )
+        };
+        proposed(given, &planned, source)
     }
 
     fn window(&mut self) -> (*mut u64, usize) {
@@ -302,6 +350,37 @@ fn settings_of(settings: &calls::Settings) -> Settings {
     }
 }
 
+/// The lists that a plan is written into, between guards.
+#[cfg_attr(not(planning), allow(dead_code))]
+struct Planned {
+    hashes: Vec<u64>,
+    heights: Vec<u32>,
+    room: Room,
+}
+
+#[cfg_attr(not(planning), allow(dead_code))]
+impl Planned {
+    fn new(room: Room) -> Self {
+        let (hashes, heights) = (vec![GUARD; room.hash_words + 2 * GUARDS], vec![GUARD as u32; room.heights + 2 * GUARDS]);
+        Self { hashes, heights, room }
+    }
+
+    /// The first so many hashes with their heights, where nothing else was written.
+    fn entries(&self, count: usize) -> Option<Vec<(calls::Hash, u32)>> {
+        if 4 * count > self.room.hash_words || count > self.room.heights {
+            return None;
+        }
+        let (hashes, heights) = (GUARDS..GUARDS + 4 * count, GUARDS..GUARDS + count);
+        let beside = |place: &usize, written: &std::ops::Range<usize>| !written.contains(place);
+        let words_whole = (0..self.hashes.len()).filter(|place| beside(place, &hashes)).all(|place| self.hashes[place] == GUARD);
+        let heights_whole =
+            (0..self.heights.len()).filter(|place| beside(place, &heights)).all(|place| self.heights[place] == GUARD as u32);
+        let hash = |words: &[u64]| plain_hash(&Hash { a: words[0], b: words[1], c: words[2], d: words[3] });
+        let entries = self.hashes[hashes].chunks(4).map(hash).zip(self.heights[heights].iter().copied());
+        (words_whole && heights_whole).then(|| entries.collect())
+    }
+}
+
 // ---- answers; a refused one is 0 but for its number
 
 /// The answer where it was accepted and is in range, else the refusal, or what was odd.
@@ -416,4 +495,23 @@ fn planned(given: Plan) -> Said {
     };
     let others = [present, owner, count, end_height, u64::from(hashes.iter().any(|hash| *hash != empty))];
     said(refused, &others, given, answer, 0)
+}
+
+/// A request has entries; without one, and where it is refused, nothing of the plan is written.
+#[cfg_attr(not(planning), allow(dead_code))]
+fn proposed(given: NextRequest, planned: &Planned, source: u64) -> Said {
+    let NextRequest { refused, places, count, next_height } = given;
+    let Some(listed) = usize::try_from(count).ok().and_then(|count| planned.entries(count)) else {
+        return Said::Malformed(format!("{given:?}, and more was written for the plan"));
+    };
+    let request = || {
+        let next_request_height = next_height.try_into().ok()?;
+        Some(calls::Request { owner: source.try_into().ok()?, entries: listed, next_request_height })
+    };
+    let answer = match count {
+        0 if next_height == 0 => Some(Answer::Proposed(None)),
+        0 => None,
+        _ => request().map(|request| Answer::Proposed(Some(request))),
+    };
+    said(refused, &[places, count, next_height], given, answer, places)
 }

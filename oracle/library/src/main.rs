@@ -7,6 +7,7 @@ mod differences;
 mod ffi;
 mod getdata;
 mod lent;
+mod planned;
 mod record;
 mod refused;
 mod window;
@@ -14,10 +15,11 @@ mod window;
 use ::getdata::cases::Cases;
 use ::getdata::comparison::{Comparison, Depth};
 use ::getdata::mistakes;
-use beside::Result;
+use beside::{PLANNING, Result};
 use calls::{figures, tally};
 use damaged::Damaged;
 use ordered::Original;
+use planned::OddLists;
 use refused::Refused;
 use std::process::ExitCode;
 use std::time::Instant;
@@ -34,7 +36,7 @@ struct Found {
     seconds: u64,
 }
 
-const USAGE: &str = "wanted: calls CALLS SEED SEEDS, refusals SEED, damage CASES SEED, figures, differences, getdata SEED, getdata-mistakes SEED, \
+const USAGE: &str = "wanted: calls CALLS SEED SEEDS, refusals SEED, damage CASES SEED, plans CASES SEED, figures, differences, getdata SEED, getdata-mistakes SEED, \
                      vectors FOLDER, short CALLS SEED CASES, or all CALLS SEED SEEDS CASES DOCUMENT EVENTS COMMIT SUM";
 
 fn main() -> ExitCode {
@@ -44,6 +46,7 @@ fn main() -> ExitCode {
         ["calls", calls, seed, seeds] => vec![beside(number(calls), number(seed), number(seeds)).0],
         ["refusals", seed] => vec![refusals(number(seed))],
         ["damage", cases, seed] => vec![damage(number(cases), number(seed))],
+        ["plans", cases, seed] => vec![odd_lists(number(cases), number(seed))],
         ["figures"] => vec![held_figures()],
         ["differences"] => vec![meant_to_differ()],
         ["getdata", seed] => vec![payloads(Depth::LONG, number(seed))],
@@ -55,6 +58,7 @@ fn main() -> ExitCode {
                 beside(number(calls), seed, 1).0,
                 refusals(seed),
                 damage(number(cases), seed),
+                odd_lists(number(cases), seed),
                 held_figures(),
                 meant_to_differ(),
                 payloads(Depth::SHORT, seed),
@@ -67,6 +71,7 @@ fn main() -> ExitCode {
                 compared,
                 refusals(seed),
                 damage(number(cases), seed),
+                odd_lists(number(cases), seed),
                 held_figures(),
                 meant_to_differ(),
                 payloads(Depth::LONG, seed),
@@ -139,7 +144,7 @@ fn beside(calls: u64, seed: u64, seeds: u64) -> (Found, String) {
     ];
     lines.extend(result.by_kind.iter().map(|(kind, count)| format!("| {kind} | {count} |")));
     let mut failures = result.failures;
-    failures.extend(result.tally.problems());
+    failures.extend(result.tally.problems_of(PLANNING));
     let events = table.iter().map(|(name, count)| format!("{count:>10}  {name}\n")).collect();
     let passed = result.calls + reached as u64;
     (Found { title: "Seeded calls", lines, passed, failures, seconds: start.elapsed().as_secs() }, events)
@@ -155,8 +160,11 @@ fn refusals(seed: u64) -> Found {
             refused.tries
         ),
         String::new(),
-        "| call or query | 0 | 1 | 2 | 3 | 4 | 5 | 6 | 7 | 8 | 9 | sets |\n|---|---|---|---|---|---|---|---|---|---|---|---|"
-            .to_string(),
+        format!(
+            "| call or query | {} | sets |\n|---|{}---|",
+            refused::NUMBERS.map(|number| number.to_string()).join(" | "),
+            "---|".repeat(refused::NUMBERS.len())
+        ),
     ];
     lines.extend(refused.table());
     let passed = refused.tries.saturating_sub(refused.failures.len() as u64);
@@ -174,6 +182,22 @@ fn damage(cases: u64, seed: u64) -> Found {
     );
     let passed = (random + changed + made).saturating_sub(failures.len() as u64);
     Found { title: "Damaged memory", lines: vec![line], passed, failures, seconds: start.elapsed().as_secs() }
+}
+
+/// Nothing, where the library does not plan.
+fn odd_lists(cases: u64, seed: u64) -> Found {
+    let (mut odd, start) = (OddLists::default(), Instant::now());
+    if cfg!(planning) {
+        odd.run(cases, seed);
+    }
+    let OddLists { plans, requests, twice, ragged, failures } = odd;
+    let line = format!(
+        "{plans} plans over lists that name hashes twice, chains that do not hold together and staged hashes that are pending (seed {seed}), {requests} of which came \
+         to a request: what goes and the window after it as in the Rust, and so the request, but for {twice} in which the Rust's own names a hash twice, and which are as \
+         request 02 says. Its promises hold of each. {ragged} plans with words past the whole hashes and with room to spare: as without."
+    );
+    let passed = (plans + ragged).saturating_sub(failures.len() as u64);
+    Found { title: "Plans over odd lists", lines: vec![line], passed, failures, seconds: start.elapsed().as_secs() }
 }
 
 fn held_figures() -> Found {

@@ -7,15 +7,15 @@
 //! more; the words are the original's state by `layout`. Seven records are made wrong, one for each thing that is compared, so that a replay which does
 //! not compare it is noticed.
 
-use calls::generator::Profile;
+use calls::generator::{Planning, Profile};
 use calls::{Answer, BlameReason, Call, Decision, Hash, Outcome, OwnedFetch, Rejection, Release, Settings, select};
 use layout::{WORDS, encode, entry_words, hash_words};
 use ordered::Original;
 use std::fs;
 use std::process::ExitCode;
 
-/// Short sequences over small tables, so that few calls show every event.
-const PROFILE: Profile = Profile { mean_length: 18, table: 8, distinct_heights: false };
+/// Short sequences over small tables, so that few calls show every event. crates/vectors replays no plans.
+const PROFILE: Profile = Profile { mean_length: 18, table: 8, distinct_heights: false, planning: Planning::Without };
 
 /// A call, and what the original did.
 struct Record {
@@ -79,7 +79,7 @@ pub fn vectors(file: &str) -> ExitCode {
     let mut recorder = Recorder::default();
     let mut words = vec![0; WORDS];
     let (mut calls, mut sequences) = (0, 0);
-    let chosen = select::covering(&mut Original::default(), 1, PROFILE, 0);
+    let chosen = select::covering(&mut Original::default(), 1, PROFILE, 0, |_, _| true);
     select::run(&mut Original::default(), 1, PROFILE, &chosen, |_, call, outcome| {
         calls += 1;
         sequences += u64::from(matches!(call, Call::Open { .. }));
@@ -173,6 +173,7 @@ fn said(call: &Call, outcome: &Outcome) -> Vec<u64> {
             Some(plan) => vec![0, 1, plan.owner.into(), plan.hashes.len() as u64, plan.end_height.into()],
             None => vec![0; 5],
         },
+        Answer::Proposed(_) => unreachable!("there are no plans among these calls"),
     }
 }
 

@@ -2,7 +2,7 @@
 //! once, both sides of every limit; words and report are as they were, to the byte.
 
 use crate::lent::{Lent, Said};
-use calls::Window as _;
+use calls::{State, Window as _};
 use layout::{HEAD, encode, is_window};
 use ordered::Original;
 use raw::{Call, causes, kind};
@@ -35,7 +35,7 @@ impl Refused {
     /// Every way to spoil every call, and every two of them.
     fn on_window(&mut self, window: &Window) {
         let words = encode(&window.state);
-        for call in &samples(&window.state) {
+        for call in &tried(&window.state) {
             for first in variations(call, &window.state) {
                 self.one(&first.call, &words, first.places);
             }
@@ -53,7 +53,7 @@ impl Refused {
             lent.push(whole.clone());
             lent.last_mut().expect("one was pushed")[word] = value;
         }
-        for call in &samples(&window.state) {
+        for call in &tried(&window.state) {
             let tries: Vec<Try> =
                 variations(call, &window.state).into_iter().chain(combined(call, window).into_values()).collect();
             for words in &lent {
@@ -89,13 +89,23 @@ impl Refused {
 
     pub fn table(&self) -> Vec<String> {
         let line = |(kind, counts): (&String, &BTreeMap<u8, u64>)| {
-            let shown: Vec<String> =
-                (0..=9).map(|number| counts.get(&number).map_or("–".to_string(), |count| count.to_string())).collect();
+            let shown: Vec<String> = NUMBERS
+                .into_iter()
+                .map(|number| counts.get(&number).map_or("–".to_string(), |count| count.to_string()))
+                .collect();
             let sets = self.together.get(kind).map_or(0, BTreeSet::len);
             format!("| {kind} | {} | {sets} |", shown.join(" | "))
         };
         self.counts.iter().map(line).collect()
     }
+}
+
+/// In the order in which they are asked for; 0 for accepted.
+pub const NUMBERS: [u8; 12] = [0, 1, 2, 3, 4, 5, 6, 7, 8, 9, 12, 10];
+
+/// Plans only where the library plans.
+fn tried(state: &State) -> Vec<Call> {
+    samples(state).into_iter().filter(|call| cfg!(planning) || call.plan().is_none()).collect()
 }
 
 fn resized(words: &[u64], length: usize) -> Vec<u64> {
@@ -138,7 +148,7 @@ pub fn answers(call: &Call, words: &[u64], places: usize, number: u8) -> Result<
     }
 }
 
-/// SPECIFICATION 4: the numbers that each call can meet, and 0.
+/// SPECIFICATION 4 and request 02: the numbers that each call can meet, and 0.
 fn numbers(kind: &str) -> Vec<u8> {
     let timeless = [
         "CreditDuplicateDelivery",
@@ -160,6 +170,7 @@ fn numbers(kind: &str) -> Vec<u8> {
         "PeerHasExpiredPending" | "PeerInStallerCooldown" => vec![0, 1, 2, 4, 6],
         "ObserveBlocked" | "SetFanoutEligiblePeers" | "ExpiredPendingCapacity" => vec![0, 1, 2, 4],
         "ClearPreferredPeer" => vec![0, 1, 2],
+        "NextPeerRequest" | "NextPeerRequestAllowingRetry" => vec![0, 1, 2, 3, 4, 6, 10, 12],
         kind if timeless.contains(&kind) || seats.contains(&kind) => vec![0, 1, 2, 6],
         _ => vec![0, 1, 2],
     }

@@ -79,9 +79,13 @@ pub fn is_query(call: &Call) -> bool {
     ) && call.sets_clock().is_none()
 }
 
-/// A flag is any number but 0.
+/// A flag is any number but 0; there may be more room for a plan than it needs.
 fn raw_call(call: &Call, turn: u64) -> raw::Call {
     let mut raw = raw::Call::from(call);
+    if let Some((_, room)) = raw.plan_mut() {
+        room.hash_words += turn as usize % 6;
+        room.heights += turn as usize % 5;
+    }
     if let raw::Call::RetainOwnedBy { flags } = &mut raw {
         flags.iter_mut().zip(turn..).filter(|(flag, _)| **flag > 0).for_each(|(flag, k)| *flag = 1 << (k % 64));
     }

@@ -55,6 +55,19 @@ const PORTED: &[&str] = &[
     "release_pending",
     "remove_pending",
     "pending_count_for",
+    "keep",
+    "from_entries",
+    "staged_bytes_exhausted",
+    "staged_byte_headroom",
+    "staged_count_headroom",
+    "next_peer_request",
+    "next_peer_request_allowing_retry",
+    "maybe_rewind_request_frontier",
+    "extend_request_by_reverse_scan",
+    "expired_request_entries",
+    "clean_contiguous_peer_request",
+    "non_empty_request",
+    "contiguous_request_entries",
 ];
 
 /// Function and block in it, from 1: those that no calls reach, and why.
@@ -64,6 +77,9 @@ const UNREACHED: &[(&str, usize, &str)] = &[
     ("retire_before", 3, "the stager's part, left out (SPECIFICATION 1.7)"),
     ("retire_before", 4, "the stager's part, left out (SPECIFICATION 1.7)"),
     ("record_prefix_probe_delivery", 4, "the index of one of eight hashes fits 32 bits"),
+    ("extend_request_by_reverse_scan", 2, "it is called with something wanted only"),
+    ("extend_request_by_reverse_scan", 3, "the chain has every height up to its tip"),
+    ("contiguous_request_entries", 3, "the walk ends at the start height, which the chain has"),
 ];
 
 struct Block {

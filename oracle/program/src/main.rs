@@ -9,7 +9,7 @@ mod substitutions;
 use calls::compare;
 use calls::events;
 use calls::figures;
-use calls::generator::Profile;
+use calls::generator::{Planning, Profile};
 use calls::select;
 use calls::sound;
 use calls::tally::{self, Tally};
@@ -51,7 +51,7 @@ fn main() -> ExitCode {
     if all_passed { ExitCode::SUCCESS } else { ExitCode::FAILURE }
 }
 
-/// COMMAND CALLS SEED [--length N] [--table N] [--distinct] [--cover] [--only TEXT]
+/// COMMAND CALLS SEED [--length N] [--table N] [--distinct] [--plans] [--without-plans] [--cover] [--only TEXT]
 struct Options {
     command: String,
     calls: u64,
@@ -72,6 +72,8 @@ impl Options {
         while let Some(argument) = rest.next() {
             match argument {
                 "--distinct" => profile.distinct_heights = true,
+                "--plans" => profile.planning = Planning::Mostly,
+                "--without-plans" => profile.planning = Planning::Without,
                 "--length" => profile.mean_length = number(rest.next())?,
                 "--table" => profile.table = number(rest.next())?,
                 "--cover" => cover = true,
@@ -80,7 +82,8 @@ impl Options {
             }
         }
         let [command, calls, seed] = plain[..] else {
-            return Err("wanted: COMMAND CALLS SEED [--length N] [--table N] [--distinct] [--cover] [--only TEXT]".to_string());
+            return Err("wanted: COMMAND CALLS SEED [--length N] [--table N] [--distinct] [--plans] [--without-plans] [--cover] [--only TEXT]"
+                .to_string());
         };
         Ok(Self { command: command.to_string(), calls: number(Some(calls))?, seed: number(Some(seed))?, profile, cover, only })
     }
@@ -99,7 +102,7 @@ fn drive(options: &Options, mut each: impl FnMut(Option<&Outcome>, &Call, &Outco
         let sequences = compare::run(&mut window, options.seed, options.profile, options.calls, each);
         return (options.calls, sequences);
     }
-    let chosen = select::covering(&mut window, options.seed, options.profile, options.calls);
+    let chosen = select::covering(&mut window, options.seed, options.profile, options.calls, |_, _| true);
     let mut calls = 0;
     select::run(&mut window, options.seed, options.profile, &chosen, |before, call, outcome| {
         calls += 1;
@@ -155,7 +158,7 @@ fn tally(options: &Options) -> bool {
     for (name, count) in &table {
         println!("{count:>10}  {name}");
     }
-    let problems = tally.problems();
+    let problems = tally.problems_of(options.profile.planning);
     for problem in &problems {
         println!("{problem}");
     }
@@ -188,11 +191,13 @@ fn count_arms(options: &Options) -> bool {
     }
 }
 
-/// Every state the original reaches keeps the rules of SPECIFICATION 9.2 of what counts as a window, and can be loaded into a fresh one.
+/// Every state the original reaches keeps the rules of SPECIFICATION 9.2 of what counts as a window, and can be loaded into a fresh one; every plan keeps
+/// request 02's promises.
 fn sound(options: &Options) -> bool {
     let mut failed = 0;
     let (calls, sequences) = drive(options, |_, call, outcome| {
         let mut broken = sound::broken_rules(&outcome.state);
+        broken.extend(sound::broken_promises(call, outcome));
         if *Ordered::loaded(&outcome.state).state() != outcome.state {
             broken.push("loads as it was");
         }

@@ -1,7 +1,32 @@
 //! A call with its arguments as they are handed in: seats and keys are any number, lists have any length.
 
-use calls::{Clock, Hash, Settings};
+use calls::{Clock, Hash, MAX_PENDING, Settings};
 use layout::hash_words;
+
+/// What is lent and said for one plan; four words a hash.
+#[derive(Clone, Debug, PartialEq, Eq)]
+pub struct Lent {
+    pub chain: Vec<u64>,
+    pub tip: u32,
+    pub staged: Vec<u64>,
+    pub refused: Vec<u64>,
+    pub start: u32,
+    pub best: u32,
+    pub floor: u32,
+    pub exhausted: bool,
+    pub byte_headroom: u64,
+    pub count_headroom: u64,
+}
+
+/// How much is lent for a plan itself.
+#[derive(Clone, Copy, Debug, PartialEq, Eq)]
+pub struct Room {
+    pub hash_words: usize,
+    pub heights: usize,
+}
+
+/// As much as a plan may need.
+pub const ENOUGH: Room = Room { hash_words: 4 * MAX_PENDING, heights: MAX_PENDING };
 
 #[derive(Clone, Debug, PartialEq, Eq)]
 pub enum Call {
@@ -99,6 +124,18 @@ pub enum Call {
         count: u64,
     },
     ClearPreferredPeer,
+    NextPeerRequest {
+        clock: Clock,
+        source: u64,
+        lent: Lent,
+        room: Room,
+    },
+    NextPeerRequestAllowingRetry {
+        clock: Clock,
+        source: u64,
+        lent: Lent,
+        room: Room,
+    },
     // The queries that take a clock or a seat.
     ComputeRequestCapacity {
         source: u64,
@@ -155,6 +192,8 @@ impl Call {
             | Call::ConfirmPrefixProbe { clock, .. }
             | Call::ObserveBlocked { clock, .. }
             | Call::SetFanoutEligiblePeers { clock, .. }
+            | Call::NextPeerRequest { clock, .. }
+            | Call::NextPeerRequestAllowingRetry { clock, .. }
             | Call::ExpiredPendingCapacity { clock }
             | Call::PeerHasExpiredPending { clock, .. }
             | Call::PeerInStallerCooldown { clock, .. } => Some(clock),
@@ -174,6 +213,8 @@ impl Call {
             | Call::CreditDeliveryFrom { source: seat, .. }
             | Call::CreditDuplicateDelivery { source: seat, .. }
             | Call::MarkPeerUnresponsive { source: seat, .. }
+            | Call::NextPeerRequest { source: seat, .. }
+            | Call::NextPeerRequestAllowingRetry { source: seat, .. }
             | Call::ComputeRequestCapacity { source: seat, .. }
             | Call::PeerHasExpiredPending { source: seat, .. }
             | Call::PeerInStallerCooldown { source: seat, .. }
@@ -183,6 +224,26 @@ impl Call {
             | Call::PendingCountFor { source: seat }
             | Call::OwnerQueueStart { owner: seat } => vec![seat],
             _ => Vec::new(),
+        }
+    }
+
+    /// Of a plan: what is lent for it.
+    pub fn plan(&self) -> Option<(&Lent, Room)> {
+        match self {
+            Call::NextPeerRequest { lent, room, .. } | Call::NextPeerRequestAllowingRetry { lent, room, .. } => {
+                Some((lent, *room))
+            }
+            _ => None,
+        }
+    }
+
+    /// The same, to be changed.
+    pub fn plan_mut(&mut self) -> Option<(&mut Lent, &mut Room)> {
+        match self {
+            Call::NextPeerRequest { lent, room, .. } | Call::NextPeerRequestAllowingRetry { lent, room, .. } => {
+                Some((lent, room))
+            }
+            _ => None,
         }
     }
 }
@@ -250,6 +311,12 @@ fn race_look_or_query(call: calls::Call) -> Call {
         }
         From::SetFanoutEligiblePeers { clock, count } => Call::SetFanoutEligiblePeers { clock, count },
         From::ClearPreferredPeer => Call::ClearPreferredPeer,
+        From::NextPeerRequest { clock, source, lent } => {
+            Call::NextPeerRequest { clock, source: source.into(), lent: (&lent).into(), room: ENOUGH }
+        }
+        From::NextPeerRequestAllowingRetry { clock, source, lent } => {
+            Call::NextPeerRequestAllowingRetry { clock, source: source.into(), lent: (&lent).into(), room: ENOUGH }
+        }
         From::ComputeRequestCapacity { source, byte_headroom, count_headroom } => {
             Call::ComputeRequestCapacity { source: source.into(), byte_headroom, count_headroom }
         }
@@ -262,6 +329,23 @@ fn race_look_or_query(call: calls::Call) -> Call {
         From::PendingCountFor { source } => Call::PendingCountFor { source: source.into() },
         From::OwnerQueueStart { owner } => Call::OwnerQueueStart { owner: owner.into() },
         query => Call::Query(query),
+    }
+}
+
+impl From<&calls::Lent> for Lent {
+    fn from(lent: &calls::Lent) -> Self {
+        Self {
+            chain: words(&lent.chain),
+            tip: lent.tip(),
+            staged: words(&lent.staged),
+            refused: words(&lent.refused),
+            start: lent.start,
+            best: lent.best,
+            floor: lent.floor,
+            exhausted: lent.exhausted,
+            byte_headroom: lent.byte_headroom,
+            count_headroom: lent.count_headroom,
+        }
     }
 }
 

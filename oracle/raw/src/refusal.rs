@@ -1,6 +1,7 @@
-//! SPECIFICATION 4.
+//! SPECIFICATION 4, and what request 02 adds to it.
 
 use crate::Call;
+use crate::data::ENOUGH;
 use calls::{MAX_BODY, MAX_CLOCK, MAX_PENDING, SEATS, State};
 use layout::{WORDS, decode, hash_words, is_window, settings_in_range};
 use std::collections::BTreeSet;
@@ -13,7 +14,10 @@ pub fn refusal(call: &Call, words: &[u64], places: usize) -> u8 {
     causes(call, words, places).first().copied().unwrap_or(0)
 }
 
-/// Every number that holds, by rising number. What a window says is not asked of words that are none.
+/// The numbers in the order in which they are asked for.
+const ORDER: [u8; 11] = [1, 2, 3, 4, 5, 6, 7, 8, 9, 12, 10];
+
+/// Every number that holds, in that order. What a window says is not asked of words that are none.
 pub fn causes(call: &Call, words: &[u64], places: usize) -> Vec<u8> {
     let window = decode(words).filter(|_| is_window(words));
     let opening = matches!(call, Call::Open { .. });
@@ -29,8 +33,10 @@ pub fn causes(call: &Call, words: &[u64], places: usize) -> Vec<u8> {
         window.as_ref().is_some_and(|state| lists_known(call, state)),
         window.as_ref().is_some_and(|state| lists_too_many(call, state)),
         matches!(call, Call::MarkReceivedFrom { bytes, .. } if *bytes > MAX_BODY),
+        call.plan().is_some_and(|(lent, _)| lent.chain.len() as u64 != 4 * (u64::from(lent.tip) + 1)),
+        call.plan().is_some_and(|(_, room)| room.hash_words < ENOUGH.hash_words || room.heights < ENOUGH.heights),
     ];
-    (1..).zip(holds).filter(|(_, holds)| *holds).map(|(number, _)| number).collect()
+    ORDER.into_iter().zip(holds).filter(|(_, holds)| *holds).map(|(number, _)| number).collect()
 }
 
 /// 3: the calls that let go on some window.
@@ -45,6 +51,8 @@ fn lets_go(call: &Call) -> bool {
             | Call::ReleasePending { .. }
             | Call::RetireBefore { .. }
             | Call::RetainOwnedBy { .. }
+            | Call::NextPeerRequest { .. }
+            | Call::NextPeerRequestAllowingRetry { .. }
     )
 }
 

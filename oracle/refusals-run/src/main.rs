@@ -2,8 +2,9 @@
 //! limit. What is expected comes from `raw`, the list of SPECIFICATION 4 written down independently.
 //! refusals SEED MODEL OUT: MODEL is the folder of the model's specs, OUT the crate folder to write.
 
+use calls::Answer;
 use calls::random::Random;
-use definitions::checks::{LENT, digest, theorem};
+use definitions::checks::{LENT, digest, lent_plan_words, theorem};
 use definitions::{closed, spell};
 use layout::{HEAD, WORDS, encode};
 use raw::{Call, causes, kind, refusal};
@@ -15,7 +16,7 @@ use std::path::Path;
 use std::{env, io};
 
 /// Numbers for which a call is performed in full, which takes seconds.
-const PERFORMED: [u8; 5] = [1, 2, 3, 6, 9];
+const PERFORMED: [u8; 7] = [1, 2, 3, 6, 9, 10, 12];
 
 /// How often each call was refused by each number, 0 for accepted.
 #[derive(Default)]
@@ -195,7 +196,8 @@ fn outcomes(window: &Window) -> String {
         let tried = tries.last().expect("every number is provoked");
         assert_eq!(refusal(&tried.call, &lent.words(), tried.places), number, "{tried:?}");
         let report: Vec<u64> = (0..tried.places).flat_map(|_| LENT).collect();
-        let expected = [vec![number.into()], lent.words(), report].map(|words| digest(&words));
+        let plan = lent_plan_words(&Answer::Done);
+        let expected = [vec![number.into()], lent.words(), report, plan].map(|words| digest(&words));
         let arguments = [lent.spelled(), tried.places.to_string(), spell::call(&tried.call)].join(") (");
         text += &theorem(&format!("outcome-{number}"), "leaves", &arguments, &spell::list(expected));
     }
@@ -242,6 +244,6 @@ impl Counts {
             println!("{kind:<26} {}", shown.join("  "));
         }
         let numbers: BTreeSet<u8> = self.0.values().flat_map(BTreeMap::keys).copied().collect();
-        assert!(numbers.into_iter().eq(0..=9), "every number is provoked");
+        assert!(numbers.into_iter().eq((0..=10).chain([12])), "every number is provoked");
     }
 }

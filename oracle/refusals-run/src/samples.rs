@@ -3,7 +3,7 @@
 use crate::windows::{hash, settings};
 use calls::{Call as Query, Clock, Hash, MAX_BODY, MAX_BYTE_LIMIT, MAX_CLOCK, MAX_COUNT, MAX_DURATION, SEATS, Settings, State};
 use layout::hash_words;
-use raw::Call;
+use raw::{Call, ENOUGH, Lent, Room};
 
 /// A call on a window, with its report's places.
 #[derive(Clone, Debug)]
@@ -62,7 +62,25 @@ fn changes(clock: Clock) -> Vec<Call> {
         },
         Call::SetFanoutEligiblePeers { clock, count: 5 },
         Call::ClearPreferredPeer,
+        Call::NextPeerRequest { clock, source: 9, lent: lending(), room: ENOUGH },
+        Call::NextPeerRequestAllowingRetry { clock, source: 9, lent: lending(), room: ENOUGH },
     ]
+}
+
+/// A chain of three hashes, one more staged and one more refused.
+fn lending() -> Lent {
+    Lent {
+        chain: list(10..13),
+        tip: 2,
+        staged: list(13..14),
+        refused: list(14..15),
+        start: 1,
+        best: 2,
+        floor: 0,
+        exhausted: false,
+        byte_headroom: 1 << 30,
+        count_headroom: 9,
+    }
 }
 
 fn queries(clock: Clock) -> Vec<Call> {
@@ -170,11 +188,41 @@ fn contents(call: &Call, state: &State) -> Vec<Call> {
             .flat_map(|bytes| [*source, None].map(|source| Call::MarkReceivedFrom { clock: *clock, hash: *hash, bytes, source }))
             .collect(),
         Call::RejectDelivery { clock, hash, .. } => vec![Call::RejectDelivery { clock: *clock, hash: *hash, source: None }],
+        Call::NextPeerRequest { .. } | Call::NextPeerRequestAllowingRetry { .. } => lendings(call),
         Call::ConfirmPrefixProbe { clock, owner, alternates, .. } => [list(0..0), list(0..9), list(0..300), vec![1, 2, 3]]
             .map(|hashes| Call::ConfirmPrefixProbe { clock: *clock, owner: *owner, hashes, alternates: alternates.clone() })
             .to_vec(),
         _ => Vec::new(),
     }
+}
+
+/// Chains of other lengths and tips, ragged ones too; ragged staged and refused lists, which count by their whole hashes; and room for the plan on
+/// either side of what it may need.
+fn lendings(call: &Call) -> Vec<Call> {
+    let with = |change: &dyn Fn(&mut Lent, &mut Room)| {
+        let mut altered = call.clone();
+        let (lent, room) = altered.plan_mut().expect("a plan");
+        change(lent, room);
+        altered
+    };
+    let chain = |words: usize, tip: u32| {
+        with(&|lent, _| {
+            lent.chain = list(10..14)[..words].to_vec();
+            lent.tip = tip;
+        })
+    };
+    let room = |hash_words, heights| with(&|_, room| *room = Room { hash_words, heights });
+    let mut calls: Vec<Call> =
+        [(0, 0), (4, 0), (4, 1), (8, 0), (8, 2), (11, 2), (12, 2), (13, 2), (15, 2), (16, 2), (3, 0), (5, 0), (4, u32::MAX)]
+            .map(|(words, tip)| chain(words, tip))
+            .to_vec();
+    calls.extend(
+        [(1024, 255), (1023, 256), (1025, 257), (1020, 256), (0, 256), (1024, 0), (0, 0)]
+            .map(|(words, heights)| room(words, heights)),
+    );
+    calls.push(with(&|lent, _| lent.staged.truncate(3)));
+    calls.push(with(&|lent, _| lent.refused.push(7)));
+    calls
 }
 
 /// Lists around the room that is left, with a hash twice or pending, and ragged ones.

@@ -82,7 +82,7 @@ pub fn generated(seed: u64) -> (Vec<Window>, Vec<Window>) {
     ];
     let (mut showing, mut others): (Vec<Window>, Vec<Window>) = (Vec::new(), Vec::new());
     let mut calls: Vec<Call> = Vec::new();
-    let profile = Profile { mean_length: 18, table: 8, distinct_heights: false };
+    let profile = Profile { mean_length: 18, table: 8, ..Profile::default() };
     compare::run(&mut Original::default(), seed, profile, 100_000, |_, call, outcome| {
         if matches!(call, Call::Open { .. }) {
             calls.clear();

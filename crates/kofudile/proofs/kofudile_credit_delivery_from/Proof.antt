@@ -1,5 +1,6 @@
 -- `kofudile::kofudile_credit_delivery_from` meets its contract: it is an `Export` (Exports.antt) of the window's function. Assumes nothing.
 use mathlib.Core.Path.{ap}
+use mathlib.Core.Bool.{false}
 use mathlib.Core.List.{[], _∷_}
 use mir.Syntax.{w64}
 use Rattle.model.specs.Refusals.{credits}
@@ -19,14 +20,15 @@ use Rattle.kofudile.proofs.kofudile_credit_delivery_from.Code as code
 
 abbrev this : Export 0
 this = record {
+  plans = false;
   pre = hash ∷ number w64 ∷ [];
   way = made height-given;
   after-it = number w64 ∷ [];
   answer = gone;
   core = core.name;
   core-change = crediting .change;
-  change = λ _ a. credits (a .1 .1 .1 .1 .0) (a .0) (a .1 .0) (height-if (a .1 .1 .0) (a .1 .1 .1 .0));
-  agrees = λ _ x m c y e. ap (credits (y .0) (x .0) (x .1 .0)) e;
+  change = λ _ a _. credits (a .1 .1 .1 .1 .0) (a .0) (a .1 .0) (height-if (a .1 .1 .0) (a .1 .1 .1 .0));
+  agrees = λ _ x m c y _ e. ap (credits (y .0) (x .0) (x .1 .0)) e;
 }
 
 said : {M : Type 1} → Said (shape this) M f.clauses

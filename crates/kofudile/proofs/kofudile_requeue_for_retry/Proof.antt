@@ -1,5 +1,6 @@
 -- `kofudile::kofudile_requeue_for_retry` meets its contract: it is an `Export` (Exports.antt) of the window's function. Assumes nothing.
 use mathlib.Core.Path.{ap}
+use mathlib.Core.Bool.{false}
 use mathlib.Core.List.{[], _∷_}
 use mir.Syntax.{w64}
 use Rattle.model.specs.Refusals.{requeues}
@@ -19,14 +20,15 @@ use Rattle.kofudile.proofs.kofudile_requeue_for_retry.Code as code
 
 abbrev this : Export 0
 this = record {
+  plans = false;
   pre = hash ∷ [];
   way = made height-given;
   after-it = number w64 ∷ [];
   answer = gone;
   core = core.name;
   core-change = requeueing .change;
-  change = λ _ a. requeues (a .1 .1 .1 .0) (a .0) (height-if (a .1 .0) (a .1 .1 .0));
-  agrees = λ _ x m c y e. ap (requeues (y .0) (x .0)) e;
+  change = λ _ a _. requeues (a .1 .1 .1 .0) (a .0) (height-if (a .1 .0) (a .1 .1 .0));
+  agrees = λ _ x m c y _ e. ap (requeues (y .0) (x .0)) e;
 }
 
 said : {M : Type 1} → Said (shape this) M f.clauses

@@ -1,47 +1,25 @@
 -- `played::act` meets its contract. Assumes nothing.
 use borrow.Author.Needs.{needs}
-use Rattle.played.specs.Told.{plays-other, plays-step}
+use borrow.Author.Tests.{eq-eqb, ne-eqb}
+use Rattle.played.specs.Steps.{kept}
+use Rattle.played.specs.Told.{turns-making, turns-planning}
 use Rattle.played.proofs.act.Statement.{statement}
 use Rattle.played.proofs.act.Tie as tie
 
 returns : tie.Need-returns
 returns c =
-    let at = c .before .before .before .before .before in
-    plays-other (at .before .before .args .s) (at .match .rest) (c .before .before .before .before .if1 .taken) _ _ _ _ (c .before .before .let-go .ensures)
+    let at = c .before .before .before .before .before .before .before .before .before .before in
+    let a = at .before .before .before .before .before .args in
+    turns-planning (a .s) (kept (a .p) (a .hashes .now) (a .heights .now) (a .staged .now)) (a .b) _ _ _ _ _ (eq-eqb _ _ (at .if1 .taken)) (c .before .before .before .before .before .before .propose .ensures)
 
 returns-2 : tie.Need-returns-2
 returns-2 c =
-    let at = c .before .before .before .before in
-    plays-step (at .before .before .args .s) (at .match .keys1) _ _ _ _ (c .before .before .ask .ensures)
-
-returns-3 : tie.Need-returns-3
-returns-3 c =
-    let at = c .before .before .before .before in
-    plays-step (at .before .before .args .s) (at .match .keys2) _ _ _ _ (c .before .before .fetch .ensures)
-
-returns-4 : tie.Need-returns-4
-returns-4 c =
-    let at = c .before .before .before .before in
-    plays-step (at .before .before .args .s) (at .match .keys3) _ _ _ _ (c .before .before .receive .ensures)
-
-returns-5 : tie.Need-returns-5
-returns-5 c =
-    let at = c .before .before .before .before in
-    plays-step (at .before .before .args .s) (at .match .keys4) _ _ _ _ (c .before .before .reject .ensures)
-
-returns-6 : tie.Need-returns-6
-returns-6 c =
-    let at = c .before .before .before .before in
-    plays-step (at .before .before .args .s) (at .match .keys5) _ _ _ _ (c .before .before .look .ensures)
-
-returns-7 : tie.Need-returns-7
-returns-7 c =
-    let at = c .before .before .before .before .before in
-    plays-other (at .before .before .args .s) (at .match .rest) (c .before .before .before .before .if1 .left) _ _ _ _ (c .before .before .change .ensures)
+    let at = c .before .before .before .before .before .before .before .before in
+    let a = at .before .before .before .before .before .args in
+    turns-making (a .s) (kept (a .p) (a .hashes .now) (a .heights .now) (a .staged .now)) (a .b) _ _ _ _ (c .before .before .before .before .make .ensures) (ne-eqb _ _ (at .if1 .left))
 
 pub act-spec : {M : Type 1} → statement M
 act-spec =
     tie.close
-    (tie.spec (λ c κs. search needs) (λ c κs. search needs) (λ c κs. search needs) (λ c κs. search needs) (λ c κs. search needs) (λ c κs. search needs)
-    (λ c. search needs) returns (λ c κs. search needs) (λ c. search needs) returns-2 (λ c. search needs) returns-3 (λ c. search needs) returns-4
-    (λ c. search needs) returns-5 (λ c. search needs) returns-6 (λ c. search needs) returns-7)
+    (tie.spec (λ c κs. search needs) (λ c. search needs) (λ c. search needs) (λ c. search needs) returns (λ c κs. search needs) (λ c. search needs)
+    (λ c. search needs) (λ c. search needs) returns-2)

@@ -5,6 +5,7 @@
 
 mod deliveries;
 mod letting_go;
+mod planning;
 mod queries;
 mod races;
 mod requests;
@@ -15,11 +16,31 @@ use crate::tally::Tally;
 
 /// One call with its surroundings.
 pub(crate) struct Seen<'a> {
+    /// What the call before answered.
+    pub last: &'a Answer,
     pub before: &'a State,
     pub call: &'a Call,
     pub answer: &'a Answer,
     pub gone: &'a [Release],
     pub after: &'a State,
+}
+
+impl<'a> Seen<'a> {
+    fn of(before: &'a Outcome, call: &'a Call, outcome: &'a Outcome) -> Self {
+        Self {
+            last: &before.answer,
+            before: &before.state,
+            call,
+            answer: &outcome.answer,
+            gone: &outcome.gone,
+            after: &outcome.state,
+        }
+    }
+}
+
+/// What a plan comes to by request 02, of what it let go and left: on lists that name a hash twice the original's own answer may differ.
+pub fn told_plan(before: &Outcome, call: &Call, outcome: &Outcome) -> Answer {
+    planning::told(&mut Tally::default(), &Seen::of(before, call, outcome))
 }
 
 const JUMP: u64 = MAX_DURATION;
@@ -33,7 +54,7 @@ pub fn count(tally: &mut Tally, before: Option<&Outcome>, call: &Call, outcome: 
     let Some(before) = before else {
         return;
     };
-    let seen = Seen { before: &before.state, call, answer: &outcome.answer, gone: &outcome.gone, after: &outcome.state };
+    let seen = Seen::of(before, call, outcome);
     everywhere(tally, &seen);
     requests::count(tally, &seen);
     deliveries::count(tally, &seen);
@@ -41,6 +62,7 @@ pub fn count(tally: &mut Tally, before: Option<&Outcome>, call: &Call, outcome: 
     races::count(tally, &seen);
     watching::count(tally, &seen);
     queries::count(tally, &seen);
+    planning::count(tally, &seen);
 }
 
 fn opening(tally: &mut Tally, before: Option<&Outcome>, clock: Clock, settings: &Settings, keys: &[u8]) {

@@ -11,7 +11,9 @@ pub(crate) fn count(tally: &mut Tally, seen: &Seen) {
         Call::HasRequestCapacity { byte_headroom, count_headroom } => {
             has_request_capacity(tally, seen.before, *byte_headroom, *count_headroom);
         }
-        Call::ComputeRequestCapacity { .. } => compute_request_capacity(tally, seen),
+        Call::ComputeRequestCapacity { source, byte_headroom, count_headroom } => {
+            let _ = compute_request_capacity(tally, seen.before, *source, (*byte_headroom, *count_headroom));
+        }
         Call::EffectivePeerInflight => drop(effective_peer_inflight(tally, seen.before)),
         _ => {}
     }
@@ -46,7 +48,24 @@ fn mark_requested(tally: &mut Tally, seen: &Seen) {
         before.pending.iter().any(|entry| entry.estimated_bytes != before.ewma_block_bytes) && !entries.is_empty(),
     );
     has_request_capacity(tally, after, *byte_headroom, *count_headroom);
+    planned(tally, seen);
     tally.either("mark_requested: answers capacity", *seen.answer == Answer::Flag(true));
+}
+
+/// A plan that is marked as it was answered.
+fn planned(tally: &mut Tally, seen: &Seen) {
+    let (Call::MarkRequested { clock, owner, entries, next_request_height, .. }, Answer::Proposed(Some(request))) =
+        (seen.call, seen.last)
+    else {
+        return;
+    };
+    if (request.owner, &request.entries, request.next_request_height) == (*owner, entries, *next_request_height) {
+        tally.either("mark_requested: a plan, at its own clock", *clock == seen.before.last_clock);
+        let left = seen.after.next_request_height == *next_request_height;
+        tally.hit_if("mark_requested: a plan, and the frontier is its next height", left);
+        let within = entries.iter().any(|(_, height)| height >= next_request_height);
+        tally.hit_if("mark_requested: a plan with an entry at its next height or above", within);
+    }
 }
 
 fn attempted_owner(tally: &mut Tally, before: &State, lists_entries: bool) {
@@ -141,29 +160,39 @@ fn effective_peer_inflight(tally: &mut Tally, state: &State) -> u64 {
     share.min(settings.max_peer_inflight)
 }
 
-fn compute_request_capacity(tally: &mut Tally, seen: &Seen) {
-    let Call::ComputeRequestCapacity { source, byte_headroom, count_headroom } = seen.call else {
-        return;
-    };
-    let (state, settings) = (seen.before, &seen.before.settings);
-    let owned = state.pending.iter().filter(|entry| entry.owner == *source).count() as u64;
+/// `compute_request_capacity` with the two headrooms: batch and bytes.
+pub(crate) fn compute_request_capacity(
+    tally: &mut Tally,
+    state: &State,
+    source: Seat,
+    headrooms: (u64, u64),
+) -> Option<(u64, u64)> {
+    let (settings, (byte_headroom, count_headroom)) = (&state.settings, headrooms);
+    let owned = state.pending.iter().filter(|entry| entry.owner == source).count() as u64;
     let inflight = effective_peer_inflight(tally, state);
     tally.compare("compute_request_capacity: owned against inflight", owned, inflight);
     let pending = state.pending.len() as u64;
     tally.compare("compute_request_capacity: pending against the setting", pending, settings.max_pending_blocks);
     tally.compare("compute_request_capacity: total against the setting", state.pending_bytes, settings.max_pending_bytes);
     let room = settings.max_pending_blocks.saturating_sub(pending);
-    tally.compare("compute_request_capacity: room against count headroom", room, *count_headroom);
+    tally.compare("compute_request_capacity: room against count headroom", room, count_headroom);
     let byte_room = settings.max_pending_bytes.saturating_sub(state.pending_bytes);
-    tally.compare("compute_request_capacity: byte room against byte headroom", byte_room, *byte_headroom);
-    let (peer, blocks) = (inflight.saturating_sub(owned), room.min(*count_headroom));
+    tally.compare("compute_request_capacity: byte room against byte headroom", byte_room, byte_headroom);
+    let (peer, blocks) = (inflight.saturating_sub(owned), room.min(count_headroom));
     tally.compare("compute_request_capacity: batch limit against the peer's room", settings.getdata_batch_limit, peer);
     let batch = settings.getdata_batch_limit.min(peer);
     tally.compare("compute_request_capacity: batch against blocks", batch, blocks);
     if batch.min(blocks) == 0 {
         tally.hit("compute_request_capacity: none, batch 0");
-        return;
+        return None;
     }
-    tally.compare("compute_request_capacity: bytes against the mean", byte_room.min(*byte_headroom), state.ewma_block_bytes);
-    tally.either("compute_request_capacity: some", *seen.answer != Answer::MaybePair(None));
+    let bytes = byte_room.min(byte_headroom);
+    tally.compare("compute_request_capacity: bytes against the mean", bytes, state.ewma_block_bytes);
+    tally.either("compute_request_capacity: some", bytes >= state.ewma_block_bytes);
+    (bytes >= state.ewma_block_bytes).then_some((batch.min(blocks), bytes))
+}
+
+/// The same, uncounted.
+pub(crate) fn request_capacity(state: &State, source: Seat, headrooms: (u64, u64)) -> Option<(u64, u64)> {
+    compute_request_capacity(&mut Tally::default(), state, source, headrooms)
 }

@@ -1,0 +1,13 @@
+pub mod Lists
+pub mod Named
+pub mod Chain
+pub mod Drafts
+pub mod Cases
+pub mod Nexts
+pub mod Entries
+pub mod Reaches
+pub mod Complete
+pub mod Left
+pub mod Unplanned
+pub mod Plan
+pub mod Calls

@@ -1,0 +1,3 @@
+pub mod Proposes
+pub mod Swept
+pub mod Rows
