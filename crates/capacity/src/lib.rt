@@ -6,7 +6,7 @@ ghost use Rattle.capacity.specs.OnNumbers.{batch_limit_by, byte_capacity_by, cap
 use model::{Fanout, Settings};
 
 // What `compute_request_capacity` answers: a batch limit and a byte capacity, where there are any.
-#[derive(Drop)]
+#[derive(Clone, Copy)]
 pub enum Batch {
     Nothing,
     Upto(u64, u64),

@@ -12,14 +12,14 @@ ghost use Rattle.cold_front.specs.Cold.{asked, turned};
 use model::{ColdFront, Entry, Front, Hash, limits};
 
 // The model's `Hedge`: an owner and a hash to hedge, where there is one.
-#[derive(Drop)]
+#[derive(Clone, Copy)]
 pub enum Ask {
     NoHedge,
     HedgeFront(u64, Hash),
 }
 
 // The model's `ColdStep`.
-#[derive(Drop)]
+#[derive(Clone, Copy)]
 pub struct Turn {
     pub cold: ColdFront,
     pub asks: Ask,

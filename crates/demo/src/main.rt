@@ -13,7 +13,7 @@ fn put(s: &[u8]) {
 }
 
 // What is kept from call to call: the book, the last plan, and how many words of the list of staged hashes are in use.
-#[derive(Drop)]
+#[derive(Clone, Copy)]
 struct Host {
     book: Book,
     plan: Plan,

@@ -13,14 +13,14 @@ use model::{
 use plans::PlanAnswer;
 
 #[repr(C)]
-#[derive(Drop)]
+#[derive(Clone, Copy)]
 pub struct FlatNumber {
     pub refused: u64,
     pub value: u64,
 }
 
 #[repr(C)]
-#[derive(Drop)]
+#[derive(Clone, Copy)]
 pub struct FlatPair {
     pub refused: u64,
     pub first: u64,
@@ -28,7 +28,7 @@ pub struct FlatPair {
 }
 
 #[repr(C)]
-#[derive(Drop)]
+#[derive(Clone, Copy)]
 pub struct FlatPerhaps {
     pub refused: u64,
     pub present: u64,
@@ -36,7 +36,7 @@ pub struct FlatPerhaps {
 }
 
 #[repr(C)]
-#[derive(Drop)]
+#[derive(Clone, Copy)]
 pub struct FlatPerhapsPair {
     pub refused: u64,
     pub present: u64,
@@ -45,14 +45,14 @@ pub struct FlatPerhapsPair {
 }
 
 #[repr(C)]
-#[derive(Drop)]
+#[derive(Clone, Copy)]
 pub struct FlatGone {
     pub refused: u64,
     pub places: u64,
 }
 
 #[repr(C)]
-#[derive(Drop)]
+#[derive(Clone, Copy)]
 pub struct FlatReceived {
     pub refused: u64,
     pub places: u64,
@@ -61,7 +61,7 @@ pub struct FlatReceived {
 }
 
 #[repr(C)]
-#[derive(Drop)]
+#[derive(Clone, Copy)]
 pub struct FlatRejected {
     pub refused: u64,
     pub places: u64,
@@ -69,7 +69,7 @@ pub struct FlatRejected {
 }
 
 #[repr(C)]
-#[derive(Drop)]
+#[derive(Clone, Copy)]
 pub struct FlatNextRequest {
     pub refused: u64,
     pub places: u64,
@@ -78,7 +78,7 @@ pub struct FlatNextRequest {
 }
 
 #[repr(C)]
-#[derive(Drop)]
+#[derive(Clone, Copy)]
 pub struct FlatBlocked {
     pub refused: u64,
     pub decision: u64,
@@ -89,7 +89,7 @@ pub struct FlatBlocked {
 }
 
 #[repr(C)]
-#[derive(Drop)]
+#[derive(Clone, Copy)]
 pub struct FlatPlan {
     pub refused: u64,
     pub present: u64,

@@ -6,7 +6,7 @@ ghost use Rattle.heights.specs.Heights.{wide};
 use model::Height;
 
 // A height that may be missing, as a caller names it: SPECIFICATION 1.1, a height has 32 bits.
-#[derive(Drop)]
+#[derive(Clone, Copy)]
 pub enum Height32 {
     Unknown,
     Known(u32),

@@ -7,7 +7,7 @@ ghost use Rattle.ledger.specs.Book.{capped, added, capped_sum, place_of, weight,
 use model::{Fetch, Number, Requested, of_release, sizes};
 
 // What was opened, and what was let go by reason, in blocks and in bytes.
-#[derive(Drop)]
+#[derive(Clone, Copy)]
 pub struct Book {
     pub blocks: u64,
     pub bytes: u64,

@@ -61,7 +61,7 @@ fn lend_at_opening(p: Pace, b: Settings) -> Pace
 }
 
 // What changes a pace.
-#[derive(Drop)]
+#[derive(Clone, Copy)]
 pub enum Turn {
     Front,
     Blame,

@@ -4,7 +4,7 @@ pub mod rows;
 pub mod words;
 
 // A call: tenths of a second, its place among the names, and the peer and the blocks where it has any.
-#[derive(Drop)]
+#[derive(Clone, Copy)]
 pub struct Call {
     pub time: u64,
     pub name: usize,
@@ -17,7 +17,7 @@ pub struct Call {
 }
 
 // The window after it: blocks and bytes pending, and how many of the blocks are with the peer.
-#[derive(Drop)]
+#[derive(Clone, Copy)]
 pub struct After {
     pub pending: u64,
     pub bytes: u64,
@@ -25,7 +25,7 @@ pub struct After {
 }
 
 // An answer: a head, a number or none, and a tail, by their places in the tables of words. A refusal's tail has a table of its own.
-#[derive(Drop)]
+#[derive(Clone, Copy)]
 pub struct Said {
     pub head: usize,
     pub counts: bool,

@@ -11,7 +11,7 @@ ghost use Rattle.laws.specs.Pending.{Ranged};
 use model::{at, sizes};
 
 // What a sweep would take of expired owners: how many entries, and their bytes.
-#[derive(Drop)]
+#[derive(Clone, Copy)]
 pub struct Forecast {
     pub blocks: u64,
     pub bytes: u64,

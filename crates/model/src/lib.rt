@@ -7,7 +7,7 @@ pub mod sizes;
 
 // A block hash: 32 bytes as four words, the first bytes heaviest.
 #[repr(C)]
-#[derive(Drop)]
+#[derive(Clone, Copy)]
 pub struct Hash {
     pub a: u64,
     pub b: u64,
@@ -17,7 +17,7 @@ pub struct Hash {
 
 // A block that was asked for and is not in yet: the Rust's `PendingBlock` with its hash.
 #[repr(C)]
-#[derive(Drop)]
+#[derive(Clone, Copy)]
 pub struct Entry {
     pub hash: Hash,
     pub owner: u64,
@@ -28,7 +28,7 @@ pub struct Entry {
 
 // An entry that was let go, and why: one of the ten reasons.
 #[repr(C)]
-#[derive(Drop)]
+#[derive(Clone, Copy)]
 pub struct Release {
     pub entry: Entry,
     pub reason: u64,
@@ -36,7 +36,7 @@ pub struct Release {
 
 // The Rust's `SyncBudget`: what the ported functions read of it. Durations are in nanoseconds.
 #[repr(C)]
-#[derive(Drop)]
+#[derive(Clone, Copy)]
 pub struct Settings {
     pub max_pending_blocks: u64,
     pub max_pending_bytes: u64,
@@ -55,7 +55,7 @@ pub struct Settings {
 // The pace of the front: `front_interval_ewma_ms` (0 for none, m + 1 for m), `last_front_advance` (0 for none, t + 1 for t),
 // `stall_timeout`.
 #[repr(C)]
-#[derive(Drop)]
+#[derive(Clone, Copy)]
 pub struct Pace {
     pub mean: u64,
     pub advance: u64,
@@ -63,56 +63,56 @@ pub struct Pace {
 }
 
 // `fanout_eligible_peers`, `fanout_engaged`.
-#[derive(Drop)]
+#[derive(Clone, Copy)]
 pub struct Fanout {
     pub eligible: u64,
     pub engaged: bool,
 }
 
 // A peer's seat that may be missing.
-#[derive(Drop)]
+#[derive(Clone, Copy)]
 pub enum Source {
     Missing,
     From(u64),
 }
 
 // A height that may be missing.
-#[derive(Drop)]
+#[derive(Clone, Copy)]
 pub enum Height {
     Unknown,
     Known(u64),
 }
 
 // A hash that may be missing.
-#[derive(Drop)]
+#[derive(Clone, Copy)]
 pub enum Sought {
     NoHash,
     Exactly(Hash),
 }
 
 // An entry that may be missing: the lowest, or the one of a hash.
-#[derive(Drop)]
+#[derive(Clone, Copy)]
 pub enum Front {
     Nothing,
     At(Entry),
 }
 
 // `StallEpisode`, where there is one: owner, front hash, since.
-#[derive(Drop)]
+#[derive(Clone, Copy)]
 pub enum Stall {
     Calm,
     Episode(u64, Hash, u64),
 }
 
 // `ApplySideStuck`, where there is one: height, frontier hash, since.
-#[derive(Drop)]
+#[derive(Clone, Copy)]
 pub enum Stuck {
     Moving,
     StuckAt(u64, Hash, u64),
 }
 
 // `ColdFrontState`, where there is one: owner, hash, since; owner, alternate, hash.
-#[derive(Drop)]
+#[derive(Clone, Copy)]
 pub enum ColdFront {
     Idle,
     Waiting(u64, Hash, u64),
@@ -120,14 +120,14 @@ pub enum ColdFront {
 }
 
 // `PrefixProbe`, where there is one: owner, accepted, started. Its hashes and its racers stand beside it.
-#[derive(Drop)]
+#[derive(Clone, Copy)]
 pub enum Probe {
     NoProbe,
     Probing(u64, u64, u64),
 }
 
 // `PendingTimeoutObservation`, where there is one: owner, hash; `Swept` where its `expired_release` is set.
-#[derive(Drop)]
+#[derive(Clone, Copy)]
 pub enum Observation {
     Unarmed,
     Armed(u64, Hash),
@@ -135,21 +135,21 @@ pub enum Observation {
 }
 
 // What a call answers that says no more than that it was accepted.
-#[derive(Drop)]
+#[derive(Clone, Copy)]
 pub enum Accepted {
     Refused(u64),
     Done,
 }
 
 // What a call answers that lets go: how many places of the report it filled.
-#[derive(Drop)]
+#[derive(Clone, Copy)]
 pub enum LetGo {
     Refused(u64),
     Gone(u64),
 }
 
 // What `mark_requested` answers: whether there is capacity for more.
-#[derive(Drop)]
+#[derive(Clone, Copy)]
 pub enum Requested {
     Refused(u64),
     Full,
@@ -157,7 +157,7 @@ pub enum Requested {
 }
 
 // What `mark_owned_fetch` answers: the Rust's true, true, true, false.
-#[derive(Drop)]
+#[derive(Clone, Copy)]
 pub enum Fetch {
     Refused(u64),
     Held,
@@ -167,7 +167,7 @@ pub enum Fetch {
 }
 
 // What `mark_received_from` answers: places filled, and the height where the block was pending.
-#[derive(Drop)]
+#[derive(Clone, Copy)]
 pub enum Received {
     Refused(u64),
     Unasked(u64),
@@ -175,7 +175,7 @@ pub enum Received {
 }
 
 // What `reject_delivery` answers: places filled where it released an entry.
-#[derive(Drop)]
+#[derive(Clone, Copy)]
 pub enum Rejected {
     Refused(u64),
     ReleasedPending(u64),
@@ -183,7 +183,7 @@ pub enum Rejected {
 }
 
 // What `observe_blocked` answers: a blamed owner, by staller or by pending timeout; height, hash and time of suppression; owner and hash.
-#[derive(Drop)]
+#[derive(Clone, Copy)]
 pub enum Blocked {
     Refused(u64),
     NoDecision,
@@ -194,7 +194,7 @@ pub enum Blocked {
 }
 
 // What a query answers that says yes or no.
-#[derive(Drop)]
+#[derive(Clone, Copy)]
 pub enum Truth {
     Refused(u64),
     Denied,
@@ -202,21 +202,21 @@ pub enum Truth {
 }
 
 // What a query answers that says a number.
-#[derive(Drop)]
+#[derive(Clone, Copy)]
 pub enum Number {
     Refused(u64),
     Is(u64),
 }
 
 // What a query answers that says two numbers.
-#[derive(Drop)]
+#[derive(Clone, Copy)]
 pub enum Pair {
     Refused(u64),
     Both(u64, u64),
 }
 
 // What a query answers that says a number or none.
-#[derive(Drop)]
+#[derive(Clone, Copy)]
 pub enum Perhaps {
     Refused(u64),
     Absent,
@@ -224,7 +224,7 @@ pub enum Perhaps {
 }
 
 // What a query answers that says two numbers or none.
-#[derive(Drop)]
+#[derive(Clone, Copy)]
 pub enum PerhapsPair {
     Refused(u64),
     Neither,
@@ -232,7 +232,7 @@ pub enum PerhapsPair {
 }
 
 // What `prefix_probe_plan` answers beside its hashes: owner, number of hashes, end height.
-#[derive(Drop)]
+#[derive(Clone, Copy)]
 pub enum Plan {
     Refused(u64),
     NoPlan,
@@ -240,7 +240,7 @@ pub enum Plan {
 }
 
 // What `next_peer_request` answers beside its lists: places filled; where there is a request, the number of its entries and its next height.
-#[derive(Drop)]
+#[derive(Clone, Copy)]
 pub enum NextRequest {
     Refused(u64),
     NoRequest(u64),

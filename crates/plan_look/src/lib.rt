@@ -17,7 +17,7 @@ use model::Hash;
 use model::sizes::HASH_WORDS;
 
 // What the scan does at a height.
-#[derive(Drop)]
+#[derive(Clone, Copy)]
 pub enum Look {
     PassBy,
     NoteRefused,

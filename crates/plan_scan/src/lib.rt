@@ -14,7 +14,7 @@ use model::Height;
 use model::sizes::HASH_WORDS;
 
 // The Rust's `RequestScan`.
-#[derive(Drop)]
+#[derive(Clone, Copy)]
 pub struct RequestScan {
     pub height: u64,
     pub tip: u64,
@@ -23,14 +23,14 @@ pub struct RequestScan {
 }
 
 // How many asks the plan has, and its next height; no request where there are none.
-#[derive(Drop)]
+#[derive(Clone, Copy)]
 pub struct Proposed {
     pub count: usize,
     pub next: u64,
 }
 
 // How far the scan came: the asks in the plan, the first refused height that it met (0 for none, n + 1 for n), the next height.
-#[derive(Drop)]
+#[derive(Clone, Copy)]
 struct Scanning {
     count: usize,
     first: u64,

@@ -12,7 +12,7 @@ use capacity::Batch;
 use model::{Height, sizes};
 
 // How many were swept; how many entries the request has, 0 for no request; its next height.
-#[derive(Drop)]
+#[derive(Clone, Copy)]
 pub struct Proposed {
     pub gone: usize,
     pub count: usize,

@@ -8,7 +8,7 @@ ghost use Rattle.plans.specs.Rows.{rows_words, words_from};
 use model::{Plan, head, sizes};
 
 // What `prefix_probe_plan` answers: the plan's numbers, or the refusal, and beside them the words of eight hashes, 0 after the planned ones.
-#[derive(Drop)]
+#[derive(Clone, Copy)]
 pub struct PlanAnswer {
     pub plan: Plan,
     pub hashes: [u64; sizes::PLANNED_WORDS],

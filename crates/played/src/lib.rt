@@ -13,13 +13,13 @@ use lines::Said;
 use model::{Accepted, Sought, Source, of_release, sizes};
 use script::{Plan, Step};
 
-#[derive(Drop)]
+#[derive(Clone, Copy)]
 pub struct Outcome {
     pub said: Said,
     pub book: Book,
 }
 
-#[derive(Drop)]
+#[derive(Clone, Copy)]
 pub struct Turn {
     pub said: Said,
     pub book: Book,

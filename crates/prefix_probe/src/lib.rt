@@ -8,7 +8,7 @@ ghost use Rattle.prefix_probe.specs.Walks.{behind, follows, Walked};
 use model::sizes;
 
 // How far the walk went: the number of entries, their places, the height expected next.
-#[derive(Drop)]
+#[derive(Clone, Copy)]
 pub struct Walk {
     pub n: usize,
     pub places: [usize; sizes::PROBED],

@@ -11,7 +11,7 @@ ghost use Rattle.probe_plan.specs.Plans.{header_by, Plans, busy, passed};
 use model::{Front, Hash, Plan, Probe, Source, limits, sizes};
 
 // A plan's owner and walk; without a plan n is 0.
-#[derive(Drop)]
+#[derive(Clone, Copy)]
 pub struct Planning {
     pub owner: u64,
     pub n: usize,

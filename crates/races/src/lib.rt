@@ -13,7 +13,7 @@ ghost use Rattle.races.specs.Hedges.{resolved, Seated};
 use model::{ColdFront, Hash, Source, sizes};
 
 // What a delivery means to the cold front: nothing, its end, or that its owner lost to the alternate.
-#[derive(Drop)]
+#[derive(Clone, Copy)]
 pub enum Resolution {
     Stays,
     Ends,

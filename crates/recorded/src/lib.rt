@@ -10,7 +10,7 @@ pub mod stream;
 use model::{Hash, Settings};
 
 // The first twelve arguments of a call, and the hashes that begin at each of the first four.
-#[derive(Drop)]
+#[derive(Clone, Copy)]
 pub struct Args {
     pub a: u64,
     pub b: u64,
@@ -31,7 +31,7 @@ pub struct Args {
 }
 
 // The arguments of `open`.
-#[derive(Drop)]
+#[derive(Clone, Copy)]
 pub struct Opening {
     pub settings: Settings,
     pub keys: [u64; 256],
@@ -39,7 +39,7 @@ pub struct Opening {
 }
 
 // The lists of `mark_requested`: how many words of hashes and how many heights there are, each with what stands from its first on.
-#[derive(Drop)]
+#[derive(Clone, Copy)]
 pub struct Asked {
     pub n: usize,
     pub hashes: [u64; 1024],
@@ -48,7 +48,7 @@ pub struct Asked {
 }
 
 // The lists of `confirm_prefix_probe`, in the same form.
-#[derive(Drop)]
+#[derive(Clone, Copy)]
 pub struct Confirmed {
     pub n: usize,
     pub given: [u64; 1024],
@@ -57,7 +57,7 @@ pub struct Confirmed {
 }
 
 // What a call said: its fields as crates/flat has them, how many places of its report it filled, and the report.
-#[derive(Drop)]
+#[derive(Clone, Copy)]
 pub struct Said {
     pub fields: [u64; 32],
     pub places: usize,
@@ -66,7 +66,7 @@ pub struct Said {
 
 // Where the parts of a record stand: its arguments, the answer's fields and how many they are, the releases' words, how many releases and words they are, the
 // runs of changed words, and the next record.
-#[derive(Drop)]
+#[derive(Clone, Copy)]
 pub struct Record {
     pub kind: u64,
     pub args: u64,
@@ -81,7 +81,7 @@ pub struct Record {
 
 // What is as recorded: the refusal and the rest of the answer; of the report how many places are filled, the order of their hashes, the other values and
 // the reasons; and all words.
-#[derive(Drop)]
+#[derive(Clone, Copy)]
 pub struct Same {
     pub refusal: bool,
     pub answer: bool,

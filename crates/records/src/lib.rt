@@ -16,14 +16,14 @@ use model::sizes::COLUMNS;
 use model::{Entry, Front, Hash, at, sizes};
 
 // Where a hash is among the records, or where it would go.
-#[derive(Drop)]
+#[derive(Clone, Copy)]
 pub enum Place {
     Here(usize),
     Free(usize),
 }
 
 // The least request time of an owner, where it has records.
-#[derive(Drop)]
+#[derive(Clone, Copy)]
 pub enum Oldest {
     Never,
     Since(u64),

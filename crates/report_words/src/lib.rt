@@ -10,7 +10,7 @@ ghost use Rattle.report_words.specs.Report.{nine, release_at, releases_of};
 use model::{Entry, Hash, of_release, sizes};
 
 // A window's total and frontier.
-#[derive(Drop)]
+#[derive(Clone, Copy)]
 pub struct Totals {
     pub total: u64,
     pub frontier: u64,

@@ -13,7 +13,7 @@ ghost use Rattle.retries.specs.Retries.{full, passed_by, retries, Lends, Drafted
 use model::{Hash, of_release, sizes};
 
 // What a plan has come to: its entries, the bytes left, the lowest refused height plus 1, 0 for none.
-#[derive(Drop)]
+#[derive(Clone, Copy)]
 pub struct Draft {
     pub count: usize,
     pub bytes: u64,

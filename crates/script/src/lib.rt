@@ -13,7 +13,7 @@ use model::{Hash, NextRequest, Number, Settings};
 
 // A call of the script: its place among the names in lines::words, tenths of a second and the clock in nanoseconds, the peer, the first block with its hash and how many
 // blocks, and one number more.
-#[derive(Drop)]
+#[derive(Clone, Copy)]
 pub struct Step {
     pub call: usize,
     pub time: u64,
@@ -26,7 +26,7 @@ pub struct Step {
 }
 
 // The last plan of a request: how many blocks, the first and the last of them, and the height after it.
-#[derive(Drop)]
+#[derive(Clone, Copy)]
 pub struct Plan {
     pub count: usize,
     pub first: u32,
@@ -35,7 +35,7 @@ pub struct Plan {
 }
 
 // The blocks that a call names: how many, the first and the last.
-#[derive(Drop)]
+#[derive(Clone, Copy)]
 pub struct Span {
     pub count: u64,
     pub first: u64,

@@ -7,7 +7,7 @@ use recorded::{Record, Same};
 use replayed::acts::perform;
 use std::num::wrapping_add_u64;
 
-#[derive(Drop)]
+#[derive(Clone, Copy)]
 struct Count {
     calls: u64,
     differing: u64,

@@ -10,7 +10,7 @@ use model::{
 };
 
 // What the stuck step leaves, and what it answers.
-#[derive(Drop)]
+#[derive(Clone, Copy)]
 pub struct Stepped {
     pub stuck: Stuck,
     pub answer: Blocked,

@@ -1,0 +1,15 @@
+-- `batch::reset_gone` meets its contract. Assumes nothing.
+use Rattle.report_words.specs.Report.{releases_of}
+use Rattle.batch.specs.Resets.{resets_hold}
+use borrow.Author.Rules.{rules}
+use Rattle.batch.proofs.reset_gone.Reads as reads
+use Rattle.batch.proofs.reset_gone.Lts as lts
+use Rattle.batch.proofs.oldest_left.Reads as oldest-left-reads
+use Rattle.batch.proofs.reset_all.Reads as reset-all-reads
+use Rattle.state_queue.proofs.pending_count.Reads as pending-count-reads
+use Rattle.batch.proofs.reset_gone.Goals as goal
+
+pub returns : goal.returns
+returns c =
+    let a = c.args in
+    resets_hold a.clock (releases_of a.n a.gone.now) a.words.now c.reset_all.new.words c.requires.0 c.reset_all.auto.words c.reset_all.ensures

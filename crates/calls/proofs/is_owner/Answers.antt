@@ -1,0 +1,6 @@
+-- `calls::is_owner` meets its contract. Assumes nothing.
+use borrow.Author.Rules.{rules}
+use Rattle.calls.proofs.is_owner.Goals as goal
+
+pub returns-in-At : goal.returns-in-At
+returns-in-At c = rw (c.in-From.is, c.in-At.is)

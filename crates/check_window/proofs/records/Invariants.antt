@@ -1,0 +1,16 @@
+-- `check_window::records` meets its contract: the records passed fit, the sum is theirs, and the table is `oldest_of` of them at every seat. Assumes nothing.
+use Rattle.std.proofs.Common.{◌≡◌, ℕ, ◌+◌, ◌-◌, ◌*◌, ◌<◌, ◌≤◌, Bool, true, false, ◌&&◌, eqb, List, length, get_or, set, sym, refl, ap, ◌∙◌, arith, length-set, rules, eq-eqb, ne_eqb}
+use mathlib.Core.Bool.{and-false}
+use borrow.Author.Tests.{not-true, not-false}
+use Rattle.facts.specs.Words.{record_fits, records_fit, total_fits, seats_fit, sum_of, oldest_of, earlier, fields_fit, rises}
+use Rattle.facts.specs.Words.{count, owner, time, estimate, total}
+use Rattle.facts.specs.Flags.{all_below, all_none, all_more, all_fails}
+use Rattle.laws.specs.Numbers.{and_both}
+use Rattle.facts.specs.Oldest.{Known, known, table_start, table_step, oldest_le, sum_more}
+use Rattle.check_window.proofs.records.Given as goal
+
+abbrev pub invariant-loop-i : goal.invariant-loop-i
+invariant-loop-i l = (l.n ≡ count l.w) × (l.i ≤ l.n) × (all_below l.i (record_fits l.w) ≡ true) × (l.sum ≡ sum_of l.w l.i) × (l.sum ≤ l.i * 4294967295) × ((s : ℕ) → get_or l.first s 0 ≡ oldest_of l.w s l.i) × (length l.first ≡ 256)
+
+abbrev pub decreases-loop-i : goal.decreases-loop-i
+decreases-loop-i l = l.n - l.i

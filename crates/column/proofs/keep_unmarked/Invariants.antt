@@ -1,0 +1,31 @@
+-- `column::keep_unmarked` meets its contract. The invariant of its loop: the first j words of the column and what is unmarked from i on are all that
+-- is kept, and the words from i on are as they were; what stands between is no one's. Assumes nothing.
+use mathlib.Core.Path.{◌≡◌, refl, sym, ap, ◌∙◌}
+use mathlib.Core.Logic.{◌⊎◌, inl, inr}
+use mathlib.Core.Bool.{Bool, true, false, cond}
+use mathlib.Core.List.{List, [], ◌∷◌, ◌++◌, append_assoc, append-nil}
+use Prim.Native.Nat.{ℕ, suc, ◌+◌, ◌-◌, ◌≤◌, ◌<◌}
+use native.Mathlib.Omega.{arith}
+use native.Mathlib.Numerals.{add-one}
+use lib.ListN.{length, get_or, set, take, drop, replicate, length-set, drop_of_length-le}
+use lib.Seq.{get_or-set_other, take-set-le, take-suc-set, length-take-le}
+use lib.Dec.{eqb}
+use borrow.Author.Rules.{rules}
+use borrow.Author.Tests.{eqb-true, eqb-false}
+use Rattle.column.specs.Edits.{keep_by, kept_by}
+use Rattle.column.proofs.Laws.{keep_one, keep_none}
+use Rattle.column.proofs.places_on.Reads as places-on-reads
+use Rattle.column.proofs.keep_unmarked.Given as goal
+
+pub record Inv (l ms col : List ℕ) (i j : ℕ) : Type 0 where
+  pub ahead : j ≤ i
+  pub within : i ≤ length l
+  pub long : length col ≡ length l
+  pub rest : (k : ℕ) → i ≤ k → get_or col k 0 ≡ get_or l k 0
+  pub is : take j col ++ keep_by (drop i ms) (drop i l) ≡ keep_by ms l
+
+abbrev pub invariant-loop-i : goal.invariant-loop-i
+invariant-loop-i l = Inv l.initial.col l.marks l.col l.i l.j
+
+abbrev pub decreases-loop-i : goal.decreases-loop-i
+decreases-loop-i l = length l.initial.col - l.i

@@ -1,0 +1,31 @@
+-- `delivery_calls::put_delivered` meets its contract. Assumes nothing.
+use mathlib.Core.Path.{ap, subst}
+use Prim.Native.Nat.{◌+◌, ◌≤◌}
+use native.Mathlib.Omega.{arith}
+use lib.ListN.{length}
+use Rattle.model.specs.declared.Front.{Front}
+use Rattle.delivery_calls.specs.Receives.{delivered, delivered_alone, delivered_before}
+use borrow.Author.Rules.{rules}
+use Rattle.delivery_calls.proofs.put_delivered.Goals as goal
+
+pub returns-in_default : goal.returns-in_default
+returns-in_default c = rw c.in_default.is
+
+pub returns-then-n-eq0 : goal.returns-then-n-eq0
+returns-then-n-eq0 c =
+    let s = c in
+    delivered_alone s.args.front _ s.args.n s.args.gone.now _ c.in-At.is c.if-n-eq0.true c.put_release.ensures
+
+pub put_first-requires : goal.put_first-requires
+put_first-requires c = (c.requires.0, ap length c.nine-first.ensures)
+
+pub overflow_add-result : goal.overflow_add-result
+overflow_add-result c = omega (arith, c.requires.1)
+
+pub returns : goal.returns
+returns c =
+    let s = c in
+    let by_front = c.front-1 in
+    let by-nine = c.nine-first in
+    let room : _ = subst (λ (f : Front). length (delivered f) + s.args.n ≤ 256) by_front.given.1 s.requires.1 in
+    delivered_before s.args.front _ s.args.n by-nine.result s.args.gone.now _ by_front.given.1 by-nine.ensures (c.put_first.ensures s.args.n (omega (arith, room)))

@@ -1,0 +1,9 @@
+-- `delivery_calls::received` meets its contract. Assumes nothing.
+use borrow.Author.Rules.{rules}
+use Rattle.delivery_calls.proofs.received.Goals as goal
+
+pub returns-in-Nothing : goal.returns-in-Nothing
+returns-in-Nothing c = rw c.in-Nothing.is
+
+pub returns-in-At : goal.returns-in-At
+returns-in-At c = rw c.in-At.is

@@ -1,0 +1,11 @@
+-- `demo::page` meets its contract. Assumes nothing.
+use native.Mathlib.Omega.{arith}
+use borrow.Author.Rules.{rules}
+use Prim.Native.Nat.{ℕ, ◌-◌}
+use Rattle.demo.proofs.page.Given as goal
+
+abbrev pub invariant-loop-k : goal.invariant-loop-k
+invariant-loop-k l = Unit {0}
+
+abbrev pub decreases-loop-k : goal.decreases-loop-k
+decreases-loop-k l = 13 - l.k

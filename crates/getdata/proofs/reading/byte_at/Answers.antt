@@ -1,0 +1,9 @@
+-- `getdata::reading::byte_at` meets its contract. Assumes nothing.
+use mathlib.Core.Path.{sym}
+use native.Mathlib.Omega.{arith}
+use lib.ListN.{get_or-eq_default}
+use borrow.Author.Rules.{rules}
+use Rattle.getdata.proofs.reading.byte_at.Goals as goal
+
+pub returns-then-bytes-at : goal.returns-then-bytes-at
+returns-then-bytes-at c = (sym (get_or-eq_default c.args.bytes.now 0 {n = c.args.at} (omega (arith, c.if-bytes-at.true))), omega arith)

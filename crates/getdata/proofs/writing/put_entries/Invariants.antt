@@ -1,0 +1,19 @@
+-- `getdata::writing::put_entries` meets its contract: at the loop's head the first i entries are written, and those of the words from 4 * i on are left.
+-- Assumes nothing.
+use mathlib.Core.Path.{◌≡◌, refl, sym, ap, ◌∙◌}
+use mathlib.Core.List.{List, ◌++◌}
+use Prim.Native.Nat.{ℕ, ◌+◌, ◌-◌, ◌*◌, ◌/◌, ◌≤◌}
+use native.Mathlib.Omega.{arith}
+use borrow.Author.Rules.{rules}
+use lib.ListN.{length, take, drop}
+use Rattle.model.specs.Hash.{hashes_in}
+use Rattle.model.specs.Getdata.{entries_bytes}
+use Rattle.getdata.proofs.Written.{hash_count, entries_next, entries_done}
+use Rattle.getdata.proofs.writing.put_entries.Given as goal
+
+abbrev pub invariant-loop-i : goal.invariant-loop-i
+invariant-loop-i l =
+    (l.i ≤ length l.hashes / 4) × ((length l.out ≡ length l.hashes / 4 * 36) × (entries_bytes (hashes_in l.hashes) ≡ take (36 * l.i) l.out ++ entries_bytes (hashes_in (drop (4 * l.i) l.hashes))))
+
+abbrev pub decreases-loop-i : goal.decreases-loop-i
+decreases-loop-i l = length l.hashes / 4 - l.i

@@ -1,0 +1,6 @@
+-- `kofudile::kofudile_has_request_capacity` meets its contract. Assumes nothing.
+use borrow.Author.Rules.{rules}
+use Rattle.kofudile.proofs.kofudile_has_request_capacity.Goals as goal
+
+pub returns : goal.returns
+returns c = cc

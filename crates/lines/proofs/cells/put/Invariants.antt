@@ -1,0 +1,16 @@
+-- `lines::cells::put` meets its contract. Assumes nothing.
+use mathlib.Core.Path.{◌≡◌, refl, ap, ◌∙◌}
+use Prim.Native.Nat.{ℕ, ◌+◌, ◌-◌, ◌≤◌}
+use mathlib.Core.List.{List}
+use native.Mathlib.Numerals.{add-one}
+use native.Mathlib.Omega.{arith}
+use lib.ListN.{length, set, get_or}
+use Rattle.lines.specs.Cells.{put_first, put}
+use borrow.Author.Rules.{rules}
+use Rattle.lines.proofs.cells.put.Given as goal
+
+abbrev pub invariant-loop-k : goal.invariant-loop-k
+invariant-loop-k l = (l.k ≤ length l.s) × (l.l ≡ put_first l.k l.place l.s l.initial.l)
+
+abbrev pub decreases-loop-k : goal.decreases-loop-k
+decreases-loop-k l = length l.s - l.k

@@ -1,0 +1,40 @@
+-- `marks::forecast_of` meets its contract: at the loop's head the forecast is that of the records from i on. Assumes nothing.
+use mathlib.Core.Path.{◌≡◌, refl, sym, ap, ◌∙◌}
+use mathlib.Core.Logic.{inl, inr}
+use mathlib.Core.Bool.{Bool, cond}
+use mathlib.Core.List.{List, ◌∷◌}
+use Prim.Native.Nat.{ℕ, suc, ◌+◌, ◌-◌, ◌*◌, ◌≤◌, ◌<◌}
+use lib.ListN.{length, drop, get_or, drop_of_length-le}
+use Rattle.model.specs.Lists.{select}
+use Rattle.model.specs.Records.{sum}
+use Rattle.model.specs.Time.{expired, effective_owner_timeout, owner_download_expired, active}
+use Rattle.model.specs.LettingGo.{forecast, forecast_blocks, forecast_bytes}
+use Rattle.model.specs.Window.{Window}
+use Rattle.model.specs.Layout.{blank, window_of}
+use Rattle.model.specs.declared.Entry.{Entry}
+use Rattle.laws.specs.Numbers.{both}
+use Rattle.laws.specs.Pending.{Ranged, pending_few, pending_cons, owner_at, estimate_at, seat_at, estimate_le, start_word}
+use native.Mathlib.Omega.{arith}
+use borrow.Author.Rules.{rules}
+use Rattle.marks.proofs.forecast_of.Reads as reads
+use Rattle.marks.proofs.forecast_of.Lts as lts
+use Rattle.marks.proofs.counted.Reads as counted-reads
+use Rattle.time.proofs.reached.Reads as reached-reads
+use Rattle.time.proofs.expiry_limit.Reads as expiry-limit-reads
+use Rattle.marks.proofs.forecast_of.Given as goal
+
+abbrev pub goes : ℕ → Window → Entry → Bool
+goes clock w e = owner_download_expired e.owner (active w) clock w
+
+pub record Inv (clock count : ℕ) (ws : List ℕ) (x y i : ℕ) : Type 0 where
+  pub within : i ≤ count
+  pub few : x ≤ count - i
+  pub low : y ≤ 4294967295 * (count - i)
+  pub blocks : x ≡ length (select (goes clock (window_of ws)) (drop i (window_of ws).queue.pending))
+  pub bytes : y ≡ sum (select (goes clock (window_of ws)) (drop i (window_of ws).queue.pending))
+
+abbrev pub invariant-loop-i : goal.invariant-loop-i
+invariant-loop-i l = Inv l.clock l.count l.words l.f.blocks l.f.bytes l.i
+
+abbrev pub decreases-loop-i : goal.decreases-loop-i
+decreases-loop-i l = l.i

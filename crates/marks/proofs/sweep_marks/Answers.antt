@@ -1,0 +1,97 @@
+-- `marks::sweep_marks` meets its contract: at the loop's head the first i marks are made. Assumes nothing.
+use mathlib.Core.Path.{◌≡◌, sym, ap, ◌∙◌}
+use mathlib.Core.Bool.{cond, ◌&&◌}
+use mathlib.Core.List.{List}
+use Prim.Native.Nat.{ℕ, suc, ◌+◌, ◌-◌, ◌≤◌, ◌<◌}
+use lib.ListN.{length, get_or}
+use lib.Dec.{ltb, leb}
+use Rattle.model.specs.Layout.{blank, window_of}
+use Rattle.model.specs.Time.{expired}
+use Rattle.model.specs.LettingGo.{skipped, sweep_reason}
+use Rattle.laws.specs.Pending.{Ranged, pending_few, owner_at, time_at, seat_at, time_le, start_word, body_word}
+use native.Mathlib.Omega.{arith}
+use Rattle.marks.proofs.Marked.{Marked, none_made, one_more, all_made}
+use Rattle.marks.proofs.sweep_marks.Goals as goal
+
+-- the mark of the record at i
+marked : (ws : List ℕ) (i clock timeout wait v : ℕ) → i < length (window_of ws).queue.pending → Ranged (window_of ws) → wait ≡ (window_of ws).pace.wait
+    → v ≡ cond (expired clock timeout (get_or ws (2304 + get_or ws (i + 1024) 0) 0)) 6
+    (cond (leb wait (clock - get_or ws (i + 1280) 0) && ltb (suc (get_or ws (i + 1280) 0)) (get_or ws (2560 + get_or ws (i + 1024) 0) 0)) 7 0)
+    → v ≡ sweep_reason clock timeout (window_of ws) (get_or (window_of ws).queue.pending i blank)
+unfolding sweep_reason skipped
+marked ws i clock timeout wait v h a q is =
+    let w = window_of ws in
+    let o = owner_at ws i h in
+    let t = sym (time_at ws i h) in
+    let s = sym (ap (λ (k : ℕ). get_or w.queue.starts k 0) o ∙ start_word ws (get_or ws (i + 1024) 0) (omega (arith, seat_at ws i h a))) in
+    let b = sym (ap (λ (k : ℕ). get_or w.queue.bodies k 0) o ∙ body_word ws (get_or ws (i + 1024) 0) (omega (arith, seat_at ws i h a))) in
+    is ∙ (λ j. cond (expired clock timeout (s j)) 6 (cond (leb (q j) (clock - t j) && ltb (suc (t j)) (b j)) 7 0))
+
+pub loop-i-init : goal.loop-i-init
+loop-i-init c = (omega arith, none_made _ _)
+
+pub overflow_add-o : goal.overflow_add-o
+overflow_add-o c = omega (arith, pending_few c.args.words.now)
+
+pub offset_bounds-words-i : goal.offset_bounds-words-i
+offset_bounds-words-i c = omega (arith, pending_few c.args.words.now)
+
+pub bounds-words-i : goal.bounds-words-i
+bounds-words-i c = omega (arith, pending_few c.args.words.now)
+
+pub overflow_add-start : goal.overflow_add-start
+overflow_add-start c = omega (arith, seat_at c.args.words.now c.loop-i.i (omega arith) c.requires.1.1.1.0)
+
+pub offset_bounds-words-owner : goal.offset_bounds-words-owner
+offset_bounds-words-owner c = omega (arith, seat_at c.args.words.now c.loop-i.i (omega arith) c.requires.1.1.1.0)
+
+pub bounds-words-owner : goal.bounds-words-owner
+bounds-words-owner c = omega (arith, seat_at c.args.words.now c.loop-i.i (omega arith) c.requires.1.1.1.0)
+
+pub overflow_add-body : goal.overflow_add-body
+overflow_add-body c = omega (arith, seat_at c.args.words.now c.loop-i.i (omega arith) c.requires.1.1.1.0)
+
+pub offset_bounds-words-owner-in-loop-i : goal.offset_bounds-words-owner-in-loop-i
+offset_bounds-words-owner-in-loop-i c = omega (arith, seat_at c.args.words.now c.loop-i.i (omega arith) c.requires.1.1.1.0)
+
+pub bounds-words-owner-in-loop-i : goal.bounds-words-owner-in-loop-i
+bounds-words-owner-in-loop-i c = omega (arith, seat_at c.args.words.now c.loop-i.i (omega arith) c.requires.1.1.1.0)
+
+pub overflow_add-i : goal.overflow_add-i
+overflow_add-i c = omega (arith, pending_few c.args.words.now)
+
+pub offset_bounds-words-i-in-loop-i : goal.offset_bounds-words-i-in-loop-i
+offset_bounds-words-i-in-loop-i c = omega (arith, pending_few c.args.words.now)
+
+pub bounds-words-i-in-loop-i : goal.bounds-words-i-in-loop-i
+bounds-words-i-in-loop-i c = omega (arith, pending_few c.args.words.now)
+
+pub sweep_mark-requires : goal.sweep_mark-requires
+sweep_mark-requires c = (c.requires.1.1.1.1, time_le c.args.words.now c.loop-i.i (omega arith) c.requires.1.1.1.0)
+
+pub offset_bounds-marks-i : goal.offset_bounds-marks-i
+offset_bounds-marks-i c = omega (arith, pending_few c.args.words.now)
+
+pub bounds-marks-i : goal.bounds-marks-i
+bounds-marks-i c = omega (arith, pending_few c.args.words.now)
+
+pub overflow_add-i-in-loop-i : goal.overflow_add-i-in-loop-i
+overflow_add-i-in-loop-i c = omega (arith, pending_few c.args.words.now)
+
+pub loop-i-smaller : goal.loop-i-smaller
+loop-i-smaller c = omega arith
+
+pub loop-i-preserved : goal.loop-i-preserved
+loop-i-preserved c =
+    let v = c.loop-i in
+    let a = c.args in
+    let ws = a.words.now in
+    let h : v.i < length (window_of ws).queue.pending = omega arith in
+    let is = marked ws v.i a.clock a.timeout a.wait c.sweep_mark.result h c.requires.1.1.1.0 c.requires.1.1.0 c.sweep_mark.ensures in
+    (omega arith, one_more _ ws v.i c.sweep_mark.result v.marks h is v.invariant.1)
+
+pub returns : goal.returns
+returns c =
+    let v = c.loop-i in
+    let s = c in
+    all_made _ s.args.words.now v.i s.args.count v.marks (omega arith) s.requires.1.0 v.invariant.1

@@ -1,0 +1,6 @@
+-- `observation::hedge_answer` meets its contract. Assumes nothing.
+use borrow.Author.Rules.{rules}
+use Rattle.observation.proofs.hedge_answer.Goals as goal
+
+pub returns : goal.returns
+returns c = rw c.in-HedgeFront.is

@@ -1,0 +1,51 @@
+-- `probe_confirm::same_rows` meets its contract. Assumes nothing.
+use mathlib.Core.Path.{◌≡◌, refl, sym, ap, ◌∙◌}
+use mathlib.Core.Bool.{Bool, ◌&&◌}
+use Prim.Native.Nat.{ℕ, ◌+◌, ◌-◌, ◌≤◌, ◌<◌}
+use native.Mathlib.Omega.{arith}
+use borrow.Author.Tests.{not-true, not-false}
+use Rattle.model.specs.Hash.{same_hashes}
+use Rattle.plans.specs.Rows.{rows_hashes}
+use Rattle.probe_confirm.specs.Confirms.{same_from, same_start, same_step, same_end}
+use borrow.Author.Rules.{rules}
+use Rattle.probe_confirm.proofs.same_rows.Goals as goal
+
+pub loop-i-init : goal.loop-i-init
+loop-i-init c = (omega arith, same_start c.args.t1 c.args.t2)
+
+pub offset_bounds-a-i : goal.offset_bounds-a-i
+offset_bounds-a-i c = omega (arith, c.loop-i-test.true)
+
+pub bounds-a-i : goal.bounds-a-i
+bounds-a-i c = omega (arith, c.loop-i-test.true)
+
+pub offset_bounds-b-i : goal.offset_bounds-b-i
+offset_bounds-b-i c = omega (arith, c.loop-i-test.true)
+
+pub bounds-b-i : goal.bounds-b-i
+bounds-b-i c = omega (arith, c.loop-i-test.true)
+
+pub returns-then-not-same_row : goal.returns-then-not-same_row
+returns-then-not-same_row c =
+    let l = c.loop-i in
+    let s = c in
+    sym (l.invariant.1 ∙ same_step s.args.t1 s.args.t2 l.i (omega (arith, c.loop-i-test.true))
+    ∙ ap (λ (q : Bool). q && same_from s.args.t1 s.args.t2 (l.i + 1)) (sym c.same_row.ensures ∙ not-true c.same_row.result c.if-not-same_row.true))
+
+pub overflow_add-i : goal.overflow_add-i
+overflow_add-i c = omega (arith, c.loop-i-test.true)
+
+pub loop-i-smaller : goal.loop-i-smaller
+loop-i-smaller c = omega (arith, c.loop-i-test.true)
+
+pub loop-i-preserved : goal.loop-i-preserved
+loop-i-preserved c =
+    let l = c.loop-i in
+    let s = c in (
+      omega (arith, c.loop-i-test.true),
+      l.invariant.1 ∙ same_step s.args.t1 s.args.t2 l.i (omega (arith, c.loop-i-test.true))
+          ∙ ap (λ (q : Bool). q && same_from s.args.t1 s.args.t2 (l.i + 1)) (sym c.same_row.ensures ∙ not-false c.same_row.result c.if-not-same_row.false),
+    )
+
+pub returns : goal.returns
+returns c = sym (c.loop-i.invariant.1 ∙ same_end c.args.t1 c.args.t2 c.loop-i.i (omega (arith, c.loop-i-test.false)))

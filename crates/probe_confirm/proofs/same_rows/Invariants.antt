@@ -1,0 +1,17 @@
+-- `probe_confirm::same_rows` meets its contract. Assumes nothing.
+use mathlib.Core.Path.{◌≡◌, refl, sym, ap, ◌∙◌}
+use mathlib.Core.Bool.{Bool, ◌&&◌}
+use Prim.Native.Nat.{ℕ, ◌+◌, ◌-◌, ◌≤◌, ◌<◌}
+use native.Mathlib.Omega.{arith}
+use borrow.Author.Tests.{not-true, not-false}
+use Rattle.model.specs.Hash.{same_hashes}
+use Rattle.plans.specs.Rows.{rows_hashes}
+use Rattle.probe_confirm.specs.Confirms.{same_from, same_start, same_step, same_end}
+use borrow.Author.Rules.{rules}
+use Rattle.probe_confirm.proofs.same_rows.Given as goal
+
+abbrev pub invariant-loop-i : goal.invariant-loop-i
+invariant-loop-i l = (l.i ≤ 8) × (same_hashes (rows_hashes 8 l.a) (rows_hashes 8 l.b) ≡ same_from l.a l.b l.i)
+
+abbrev pub decreases-loop-i : goal.decreases-loop-i
+decreases-loop-i l = 8 - l.i

@@ -1,0 +1,17 @@
+-- `probe_plan::header_of` meets its contract. Assumes nothing.
+use mathlib.Core.Path.{ap}
+use Prim.Native.Nat.{ℕ}
+use native.Mathlib.Omega.{arith}
+use borrow.Author.Tests.{lt-leb, le-leb}
+use Rattle.model.specs.Races.{win_blocks}
+use Rattle.model.specs.declared.Plan.TheVariants.{Planned}
+use borrow.Author.Rules.{rules}
+use Rattle.probe_plan.proofs.header_of.Goals as goal
+
+pub returns-then-p-lt-WIN_BLOCKS : goal.returns-then-p-lt-WIN_BLOCKS
+returns-then-p-lt-WIN_BLOCKS c = rw (lt-leb win_blocks c.args.p.n (omega (arith, c.if-p-lt-WIN_BLOCKS.true)))
+
+pub returns : goal.returns
+returns c =
+    let p = c.args.p in
+    rw (le-leb win_blocks p.n (omega (arith, c.if-p-lt-WIN_BLOCKS.false))) (ap (λ (end : ℕ). Planned p.owner p.n end) c.minus-end.ensures)

@@ -1,0 +1,17 @@
+-- `queries::contains_pending` meets its contract. Assumes nothing.
+use mathlib.Core.Path.{sym, subst, ap, ◌∙◌}
+use Rattle.model.specs.Layout.{window_of}
+use Rattle.model.specs.Records.{is_there}
+use Rattle.records.specs.Places.{Finds, here_found, free_found}
+use borrow.Author.Rules.{rules}
+use Rattle.queries.proofs.contains_pending.Goals as goal
+
+pub returns-in-Here : goal.returns-in-Here
+returns-in-Here c =
+    let l = (window_of c.args.words.now).queue.pending in
+    sym (ap is_there (here_found c.args.h l c.in-Here.field-0 c.requires.1 (subst (Finds c.args.h l) c.in-Here.is c.find-p.ensures)).0)
+
+pub returns-in-Free : goal.returns-in-Free
+returns-in-Free c =
+    let l = (window_of c.args.words.now).queue.pending in
+    sym (ap is_there (free_found c.args.h l c.in-Free.field-0 c.requires.1 (subst (Finds c.args.h l) c.in-Free.is c.find-p.ensures)).0)

@@ -1,0 +1,6 @@
+-- `recorded::answers::done` meets its contract. Assumes nothing.
+use Rattle.std.proofs.Common.{rules}
+use Rattle.recorded.proofs.answers.done.Goals as goal
+
+pub returns : goal.returns
+returns c = cc

@@ -1,0 +1,41 @@
+-- `recorded::input::read_numbers` meets its contract: at the loop's head the numbers of the bytes that are left are still to be put. Assumes nothing.
+use Rattle.std.proofs.Common.{◌≡◌, ℕ, suc, ◌+◌, ◌-◌, ◌<◌, ◌≤◌, List, [], length, get_or, drop, sym, refl, ap, ◌∙◌, arith, drop_of_length-le, drop-cons, rules}
+use Rattle.recorded.specs.Input.{left_after, value_after, emitted, numbers_from, put_at, Keeps}
+use Rattle.recorded.proofs.input.read_numbers.Goals as goal
+
+-- one byte more
+one_more : (bs : List ℕ) (i left value l v : ℕ) → i < length bs → l ≡ left_after left (get_or bs i 0) → v ≡ value_after left value (get_or bs i 0)
+    → numbers_from left value (drop i bs) ≡ emitted l v (numbers_from l v (drop (i + 1) bs))
+unfolding numbers_from
+one_more bs i left value l v h e f =
+    let next : suc i ≡ i + 1 = omega arith in
+    ap (numbers_from left value) (drop-cons bs i 0 h)
+    ∙ ap (λ (x : ℕ). emitted x (value_after left value (get_or bs i 0)) (numbers_from x (value_after left value (get_or bs i 0)) (drop (suc i) bs))) (sym e)
+    ∙ ap (λ (x : ℕ). emitted l x (numbers_from l x (drop (suc i) bs))) (sym f)
+    ∙ ap (λ (k : ℕ). emitted l v (numbers_from l v (drop k bs))) next
+
+-- no byte is left
+none_left : (bs : List ℕ) (i left value n : ℕ) (out : List ℕ) → length bs ≤ i → put_at n (numbers_from left value (drop i bs)) out ≡ out
+unfolding numbers_from put_at
+none_left bs i left value n out h = ap (λ (r : List ℕ). put_at n (numbers_from left value r) out) (drop_of_length-le bs h)
+
+pub loop-i-init : goal.loop-i-init
+loop-i-init c = (refl, refl)
+
+pub loop-i-preserved : goal.loop-i-preserved
+loop-i-preserved c =
+    let a = c.args in
+    let v = c.loop-i in
+    let l = c.left_after-left in
+    let x = c.value_after-value in
+    let k = c.kept-n in
+    let e = one_more a.bytes.now v.i v.left v.value l.result x.result (omega arith) l.ensures x.ensures in (
+      k.ensures.0 ∙ v.invariant.0,
+      v.invariant.1 ∙ ap (λ (ns : List ℕ). put_at v.n ns v.out) e ∙ sym (k.ensures.1 (numbers_from l.result x.result (drop (v.i + 1) a.bytes.now))),
+    )
+
+pub returns : goal.returns
+returns c =
+    let a = c.args in
+    let v = c.loop-i in
+    sym (v.invariant.1 ∙ none_left a.bytes.now v.i v.left v.value v.n v.out (omega arith))

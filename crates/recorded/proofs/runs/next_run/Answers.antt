@@ -1,0 +1,6 @@
+-- `recorded::runs::next_run` meets its contract. Assumes nothing.
+use Rattle.std.proofs.Common.{rules}
+use Rattle.recorded.proofs.runs.next_run.Goals as goal
+
+pub returns : goal.returns
+returns c = cc

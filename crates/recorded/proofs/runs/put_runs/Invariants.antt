@@ -1,0 +1,11 @@
+-- `recorded::runs::put_runs` meets its contract: at the loop's head the runs that are left are still to be put. Assumes nothing.
+use Rattle.std.proofs.Common.{◌≡◌, ℕ, zero, suc, ◌-◌, ◌<◌, ◌≤◌, true, false, cond, leb, List, length, sym, refl, ap, ◌∙◌, not-suc-le-zero, arith, rules, le-leb}
+use borrow.Author.Tests.{lt-leb}
+use Rattle.recorded.specs.Records.{run_put, next_run, runs_put}
+use Rattle.recorded.proofs.runs.put_runs.Given as goal
+
+abbrev pub invariant-loop-turns : goal.invariant-loop-turns
+invariant-loop-turns l = (length l.words ≡ length l.initial.words) × (runs_put 4096 l.numbers l.from l.end l.initial.words ≡ runs_put l.turns l.numbers l.at l.end l.words)
+
+abbrev pub decreases-loop-turns : goal.decreases-loop-turns
+decreases-loop-turns l = l.turns

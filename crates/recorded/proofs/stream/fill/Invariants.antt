@@ -1,0 +1,15 @@
+-- `recorded::stream::fill` meets its contract. Assumes nothing.
+use Rattle.std.proofs.Common.{◌≡◌, ℕ, ◌-◌, List, length, refl, ◌∙◌, arith, length-set, rules}
+use Rattle.recorded.specs.Stream.{nth}
+use Rattle.recorded.proofs.Turns.{Upto, upto_start, upto_step, upto_done}
+use Rattle.recorded.proofs.stream.fill.Given as goal
+
+-- what stands i places on
+abbrev pub new : List ℕ → ℕ → ℕ → ℕ → ℕ
+new ns place i w = nth ns place i
+
+abbrev pub invariant-loop-i : goal.invariant-loop-i
+invariant-loop-i l = (length l.l ≡ length l.initial.l) × Upto (new l.numbers l.at) l.initial.l l.i l.l
+
+abbrev pub decreases-loop-i : goal.decreases-loop-i
+decreases-loop-i l = length l.initial.l - l.i

@@ -1,0 +1,27 @@
+-- `records::lowest_place` meets its contract: at the loop's head `best` is the place of the lowest from i on. Assumes nothing.
+use mathlib.Core.Path.{◌≡◌, refl, sym, ap, ◌∙◌}
+use mathlib.Core.List.{List}
+use Prim.Native.Nat.{ℕ, suc, ◌+◌, ◌-◌, ◌≤◌, ◌<◌}
+use native.Mathlib.Omega.{arith}
+use lib.ListN.{take, drop, get_or}
+use borrow.Author.Tests.{lt-ltb, le-ltb, le-leb, lt-leb}
+use Rattle.model.specs.Lists.{count}
+use Rattle.model.specs.Records.{lowest, lower}
+use Rattle.model.specs.Layout.{entry_at, rows, decode}
+use Rattle.laws.specs.Rows.{rows_at, live_cons, live_end, word_at}
+use Rattle.model.specs.declared.Front.{Front}
+use Rattle.model.specs.declared.Front.TheVariants.{At, Nothing}
+use Rattle.records.specs.Places.{front_at}
+use Rattle.records.proofs.lowest_place.Given as goal
+
+-- from i on: no record yet, or the lowest is at `best`
+pub data Lowest (ws : List ℕ) (m best low i : ℕ) : Type 0 where
+  pub none : i ≡ m → best ≡ m → low ≡ 18446744073709551615 → Lowest ws m best low i
+  pub some : i ≤ best → best < m → lowest (drop i (take m (rows 256 ws))) ≡ At (entry_at (drop best ws)) → (entry_at (drop best ws)).height ≡ low
+      → Lowest ws m best low i
+
+abbrev pub invariant-loop-i : goal.invariant-loop-i
+invariant-loop-i l = (l.i ≤ l.count) × Lowest l.words l.count l.best l.low l.i
+
+abbrev pub decreases-loop-i : goal.decreases-loop-i
+decreases-loop-i l = l.i

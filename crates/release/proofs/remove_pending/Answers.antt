@@ -1,0 +1,40 @@
+-- `release::remove_pending` meets its contract. Assumes nothing.
+use mathlib.Core.Path.{◌≡◌, sym, ap, ◌∙◌, subst}
+use Rattle.model.specs.Layout.{blank, window_of}
+use Rattle.records.specs.Places.{Finds}
+use Rattle.records.specs.declared.Place.{Place}
+use Rattle.records.specs.declared.Place.TheVariants.{Here, Free}
+use Rattle.release.specs.Removes.{removed_holds, stays_held}
+use borrow.Author.Rules.{rules}
+use native.Mathlib.Omega.{arith}
+use Rattle.release.proofs.remove_pending.Reads as reads
+use Rattle.release.proofs.remove_pending.Lts as lts
+use Rattle.release.proofs.let_out.Reads as let-out-reads
+use Rattle.report_words.proofs.put_release.Reads as put-release-reads
+use Rattle.state_queue.proofs.entry_at.Reads as entry-at-reads
+use Rattle.state_queue.proofs.find.Reads as find-reads
+use Rattle.release.proofs.remove_pending.Goals as goal
+
+pub entry_at-e-requires : goal.entry_at-e-requires
+entry_at-e-requires c =
+    let f = subst (Finds c.args.h (window_of c.args.words.now).queue.pending) c.in-Here.is c.find-p.ensures in
+    (c.requires.0, f.1.0)
+
+pub let_out-requires : goal.let_out-requires
+let_out-requires c =
+    let f = subst (Finds c.args.h (window_of c.args.words.now).queue.pending) c.in-Here.is c.find-p.ensures in
+    (c.requires.0, (c.requires.1.0, (f.1.0, c.entry_at-e.ensures)))
+
+pub returns-in-Here : goal.returns-in-Here
+returns-in-Here c =
+    let a = c.args in
+    let f = subst (Finds a.h (window_of a.words.now).queue.pending) c.in-Here.is c.find-p.ensures in
+    let d = removed_holds a.clock a.reason a.h a.words.now c.let_out.new.words a.gone.now c.put_release.new.gone c.requires.0 c.requires.1.0 c.in-Here.at c.entry_at-e.result c.entry_at-e.ensures f c.let_out.ensures c.put_release.ensures in
+    (omega arith, d.0, d.1)
+
+pub returns-in-Free : goal.returns-in-Free
+returns-in-Free c =
+    let a = c.args in
+    let f = subst (Finds a.h (window_of a.words.now).queue.pending) c.in-Free.is c.find-p.ensures in
+    let d = stays_held a.clock a.reason a.h a.words.now a.words.now a.gone.now a.gone.now c.requires.0 c.requires.1.0 c.in-Free.field-0 f in
+    (omega arith, d.0, d.1)

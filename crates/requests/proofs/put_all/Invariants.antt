@@ -1,0 +1,19 @@
+-- `requests::put_all` meets its contract. Assumes nothing.
+use mathlib.Core.Path.{◌≡◌, refl, subst, ◌∙◌}
+use mathlib.Core.List.{List, []}
+use Prim.Native.Nat.{◌≤◌, ◌<◌, ◌-◌}
+use native.Mathlib.Omega.{arith}
+use lib.ListN.{length, drop}
+use Rattle.model.specs.Calls.{Ask, asks_in}
+use Rattle.model.specs.Window.{Window}
+use Rattle.model.specs.Layout.{window_of}
+use Rattle.laws.specs.Whole.{Whole, Holds, holds_whole}
+use Rattle.requests.specs.Asks.{asks_within}
+use Rattle.requests.specs.Puts.{drop_all, Putting, putting_start, turn_takes, turn_puts, putting_done}
+use Rattle.requests.proofs.put_all.Given as goal
+
+abbrev pub invariant-loop-i : goal.invariant-loop-i
+invariant-loop-i l = (l.i ≤ l.n) × (Whole l.words × (Putting (asks_in l.hashes l.heights) l.owner l.clock (window_of l.initial.words) (drop l.i (asks_in l.hashes l.heights)) (window_of l.words) × (length l.words ≡ length l.initial.words)))
+
+abbrev pub decreases-loop-i : goal.decreases-loop-i
+decreases-loop-i l = l.n - l.i

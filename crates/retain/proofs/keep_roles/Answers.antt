@@ -1,0 +1,55 @@
+-- `retain::keep_roles` meets its contract. Assumes nothing.
+use mathlib.Core.Path.{◌≡◌, sym, ap, ◌∙◌, subst}
+use Prim.Native.Nat.{◌≤◌}
+use Rattle.model.specs.LettingGo.{flagged, cold_kept, peer_kept}
+use Rattle.model.specs.Layout.{window_of, source_word}
+use Rattle.model.specs.declared.ColdFront.{ColdFront}
+use Rattle.model.specs.declared.Source.{Source}
+use Rattle.states.specs.Fits.{cold_fits}
+use Rattle.retain.specs.Retains.{cold_kept_fits, peer_kept_fits, roles_hold}
+use borrow.Author.Rules.{rules}
+use Rattle.retain.proofs.keep_roles.Reads as reads
+use Rattle.retain.proofs.keep_roles.Lts as lts
+use Rattle.retain.proofs.cold_kept.Reads as cold-kept-reads
+use Rattle.retain.proofs.keep_probe.Reads as keep-probe-reads
+use Rattle.retain.proofs.peer_kept.Reads as peer-kept-reads
+use Rattle.state.proofs.get_attempted.Reads as get-attempted-reads
+use Rattle.state.proofs.get_cold.Reads as get-cold-reads
+use Rattle.state.proofs.get_preferred.Reads as get-preferred-reads
+use Rattle.state.proofs.set_attempted.Reads as set-attempted-reads
+use Rattle.state.proofs.set_cold.Reads as set-cold-reads
+use Rattle.state.proofs.set_preferred.Reads as set-preferred-reads
+use Rattle.retain.proofs.keep_roles.Goals as goal
+
+pub get_cold-c-requires : goal.get_cold-c-requires
+get_cold-c-requires c = c.requires.0.long
+
+pub get_preferred-p-requires : goal.get_preferred-p-requires
+get_preferred-p-requires c = c.requires.0.long
+
+pub get_attempted-a-requires : goal.get_attempted-a-requires
+get_attempted-a-requires c = c.requires.0.long
+
+pub set_cold-requires : goal.set_cold-requires
+set_cold-requires c =
+    let owns = flagged c.args.flags.now in
+    (c.requires.0, subst cold_fits (sym (c.cold_kept-cold.ensures ∙ ap (cold_kept owns) c.get_cold-c.ensures)) (cold_kept_fits owns (window_of c.args.words.now).races.cold c.requires.1.1.cold))
+
+pub set_preferred-requires : goal.set_preferred-requires
+set_preferred-requires c =
+    let owns = flagged c.args.flags.now in
+    (c.set_cold.ensures.whole, subst (λ (x : Source). source_word x ≤ 256) (sym (c.peer_kept-preferred.ensures ∙ ap (peer_kept owns) c.get_preferred-p.ensures)) (peer_kept_fits owns (window_of c.args.words.now).races.preferred c.requires.1.1.preferred))
+
+pub set_attempted-requires : goal.set_attempted-requires
+set_attempted-requires c =
+    let owns = flagged c.args.flags.now in
+    (c.set_preferred.ensures.whole, subst (λ (x : Source). source_word x ≤ 256) (sym (c.peer_kept-attempted.ensures ∙ ap (peer_kept owns) c.get_attempted-a.ensures)) (peer_kept_fits owns (window_of c.args.words.now).races.attempted c.requires.1.1.attempted))
+
+pub keep_probe-requires : goal.keep_probe-requires
+keep_probe-requires c = (c.set_attempted.ensures.whole, c.requires.1.0)
+
+pub returns : goal.returns
+returns c =
+    let a = c.args in
+    roles_hold a.flags.now a.words.now c.set_cold.new.words c.set_preferred.new.words c.set_attempted.new.words c.keep_probe.new.words c.get_cold-c.result c.cold_kept-cold.result c.get_preferred-p.result c.peer_kept-preferred.result c.get_attempted-a.result c.peer_kept-attempted.result
+    c.get_cold-c.ensures c.cold_kept-cold.ensures c.get_preferred-p.ensures c.peer_kept-preferred.ensures c.get_attempted-a.ensures c.peer_kept-attempted.ensures c.set_cold.ensures c.set_preferred.ensures c.set_attempted.ensures c.keep_probe.ensures

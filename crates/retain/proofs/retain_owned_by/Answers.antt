@@ -1,0 +1,26 @@
+-- `retain::retain_owned_by` meets its contract. Assumes nothing.
+use mathlib.Core.Path.{◌≡◌, ap, ◌∙◌, subst}
+use Rattle.model.specs.Window.{Step}
+use Rattle.laws.specs.Whole.{Holds}
+use Rattle.retain.specs.Retains.{roles_ranged, owned_is}
+use borrow.Author.Rules.{rules}
+use Rattle.retain.proofs.retain_owned_by.Reads as reads
+use Rattle.retain.proofs.retain_owned_by.Lts as lts
+use Rattle.retain.proofs.keep_roles.Reads as keep-roles-reads
+use Rattle.retain.proofs.retain_peer_assignments.Reads as retain-peer-assignments-reads
+use Rattle.retain.proofs.retain_owned_by.Goals as goal
+
+pub keep_roles-requires : goal.keep_roles-requires
+keep_roles-requires c = (c.requires.0, (c.requires.1.1.1.1, c.requires.1.1.0))
+
+pub retain_peer_assignments-requires : goal.retain_peer_assignments-requires
+retain_peer_assignments-requires c =
+    let a = c.args in
+    (c.keep_roles.ensures.whole, (roles_ranged a.flags.now a.words.now c.keep_roles.new.words c.requires.1.0 c.keep_roles.ensures, (c.requires.1.1.1.0, c.requires.1.1.1.1)))
+
+pub returns : goal.returns
+returns c =
+    let a = c.args in
+    let e = owned_is a.flags.now a.words.now c.keep_roles.new.words c.keep_roles.ensures in
+    let d = c.retain_peer_assignments.ensures in
+    (d.0, subst (λ (s : Step). Holds s.window c.retain_peer_assignments.new.words) e d.1, d.2 ∙ ap (λ (s : Step). s.gone) e)

@@ -1,0 +1,7 @@
+-- `script::after_of` meets its contract. Assumes nothing.
+use mathlib.Core.Path.{refl}
+use borrow.Author.Rules.{rules}
+use Rattle.script.proofs.after_of.Goals as goal
+
+pub returns : goal.returns
+returns c = rw (c.value-3.ensures, c.value-2.ensures, c.value.ensures) refl

@@ -1,0 +1,10 @@
+-- `seats::racer_of` meets its contract. Assumes nothing.
+use mathlib.Core.Path.{sym}
+use Rattle.model.specs.Layout.{decode}
+use Rattle.laws.specs.Tables.{seat_word}
+use borrow.Author.Rules.{rules}
+use Rattle.seats.proofs.racer_of.Goals as goal
+
+pub returns : goal.returns
+unfolding decode
+returns c = sym (seat_word 3328 c.args.seat c.args.words.now c.requires.1)

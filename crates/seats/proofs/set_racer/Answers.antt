@@ -1,0 +1,12 @@
+-- `seats::set_racer` meets its contract. Assumes nothing.
+use Rattle.model.specs.Layout.{decode}
+use borrow.Author.Rules.{rules}
+use Rattle.seats.proofs.Written.{racers_back}
+use Rattle.seats.proofs.set_racer.Goals as goal
+
+pub returns : goal.returns
+unfolding decode
+returns c =
+    let at_call = c in
+    let at-start = at_call in
+    racers_back at-start.args.words.now at_call.store.new.col _ at-start.requires.0 at_call.store.ensures at_call.store.auto.col

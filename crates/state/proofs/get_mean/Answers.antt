@@ -1,0 +1,8 @@
+-- `state::get_mean` meets its contract. Assumes nothing.
+use Rattle.model.specs.Layout.{window_of, read}
+use borrow.Author.Rules.{rules}
+use Rattle.state.proofs.get_mean.Goals as goal
+
+pub returns : goal.returns
+unfolding window_of read
+returns c = c.word_of.ensures

@@ -1,0 +1,16 @@
+-- `state::set_pace` meets its contract. Assumes nothing.
+use Rattle.model.specs.Layout.{window_of}
+use Rattle.laws.specs.Tables.{with_words}
+use Rattle.laws.specs.Whole.{lifted, words_shaped}
+use Rattle.laws.specs.Groups.{pace_in}
+use Rattle.layout.specs.Head.{pace_list}
+use borrow.Author.Rules.{rules}
+use Rattle.state.proofs.set_pace.Goals as goal
+
+pub returns : goal.returns
+unfolding pace_list
+returns c =
+    let start = c in
+    let ws = start.args.words.now in
+    let whole = start.requires in
+    lifted ws _ (with_words 22 (pace_list start.args.p)) _ whole c.store_pace.auto.words c.store_pace.ensures (pace_in (window_of ws) start.args.p) (words_shaped ws whole.long)

@@ -1,0 +1,14 @@
+-- `state::set_stuck` meets its contract. Assumes nothing.
+use Rattle.model.specs.Layout.{window_of, stuck_words}
+use Rattle.laws.specs.Tables.{with_words}
+use Rattle.laws.specs.Whole.{lifted, words_shaped}
+use Rattle.laws.specs.Groups.{stuck_in}
+use borrow.Author.Rules.{rules}
+use Rattle.state.proofs.set_stuck.Goals as goal
+
+pub returns : goal.returns
+returns c =
+    let start = c in
+    let ws = start.args.words.now in
+    let whole = start.requires.0 in
+    lifted ws _ (with_words 33 (stuck_words start.args.x)) _ whole c.store_stuck.auto.words c.store_stuck.ensures (stuck_in (window_of ws) start.args.x) (words_shaped ws whole.long)

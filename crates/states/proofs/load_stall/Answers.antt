@@ -1,0 +1,6 @@
+-- `states::load_stall` meets its contract. Assumes nothing.
+use borrow.Author.Rules.{rules}
+use Rattle.states.proofs.load_stall.Goals as goal
+
+pub returns : goal.returns
+returns c = cc

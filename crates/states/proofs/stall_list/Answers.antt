@@ -1,0 +1,13 @@
+-- `states::stall_list` meets its contract. Assumes nothing.
+use mathlib.Core.Path.{subst}
+use native.Mathlib.Omega.{arith}
+use native.Mathlib.Numerals.{add-one}
+use Rattle.states.specs.Fits.{stall_fits}
+use borrow.Author.Rules.{rules}
+use Rattle.states.proofs.stall_list.Goals as goal
+
+pub overflow_add-result : goal.overflow_add-result
+overflow_add-result c = omega (arith, subst stall_fits c.in-Episode.is c.requires)
+
+pub returns-in-Episode : goal.returns-in-Episode
+returns-in-Episode c = rw (c.in-Episode.is, add-one)

@@ -1,0 +1,13 @@
+-- `states::stuck_list` meets its contract. Assumes nothing.
+use mathlib.Core.Path.{subst}
+use native.Mathlib.Omega.{arith}
+use native.Mathlib.Numerals.{add-one}
+use Rattle.states.specs.Fits.{stuck_fits}
+use borrow.Author.Rules.{rules}
+use Rattle.states.proofs.stuck_list.Goals as goal
+
+pub overflow_add-result : goal.overflow_add-result
+overflow_add-result c = omega (arith, subst stuck_fits c.in-StuckAt.is c.requires)
+
+pub returns-in-StuckAt : goal.returns-in-StuckAt
+returns-in-StuckAt c = rw (c.in-StuckAt.is, add-one)

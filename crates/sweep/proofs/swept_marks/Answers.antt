@@ -1,0 +1,32 @@
+-- `sweep::swept_marks` meets its contract. Assumes nothing.
+use mathlib.Core.Path.{◌≡◌, sym, ap, ◌∙◌, subst}
+use mathlib.Core.List.{List, map}
+use Prim.Native.Nat.{ℕ}
+use lib.ListN.{length, take}
+use Rattle.model.specs.LettingGo.{sweep_reason}
+use Rattle.model.specs.Layout.{window_of}
+use Rattle.model.specs.declared.Pace.{Pace}
+use Rattle.laws.specs.Pending.{sound_ranged}
+use borrow.Author.Rules.{rules}
+use Rattle.sweep.proofs.swept_marks.Reads as reads
+use Rattle.sweep.proofs.swept_marks.Lts as lts
+use Rattle.marks.proofs.sweep_marks.Reads as sweep-marks-reads
+use Rattle.state.proofs.get_pace.Reads as get-pace-reads
+use Rattle.state_queue.proofs.pending_count.Reads as pending-count-reads
+use Rattle.sweep.proofs.timeout_of.Reads as timeout-of-reads
+use Rattle.sweep.proofs.swept_marks.Goals as goal
+
+pub timeout_of-timeout-requires : goal.timeout_of-timeout-requires
+timeout_of-timeout-requires c = (c.requires.0.long, c.requires.1.settings)
+
+pub sweep_marks-requires : goal.sweep_marks-requires
+sweep_marks-requires c =
+    let a = c.args in
+    (c.requires.0.long, (c.pending_count-count.ensures.0, (ap (λ (p : Pace). p.wait) c.get_pace-pace.ensures, (sound_ranged a.clock (window_of a.words.now) c.requires.1, c.requires.1.clock))))
+
+pub returns : goal.returns
+returns c =
+    let a = c.args in
+    let w = window_of a.words.now in
+    subst (λ (t : ℕ). take (length w.queue.pending) c.sweep_marks.result ≡ map (sweep_reason a.clock t w) w.queue.pending) c.timeout_of-timeout.ensures
+    (subst (λ (k : ℕ). take k c.sweep_marks.result ≡ map (sweep_reason a.clock c.timeout_of-timeout.result w) w.queue.pending) c.pending_count-count.ensures.0 c.sweep_marks.ensures)

@@ -1,0 +1,6 @@
+-- `watch::is_above` meets its contract. Assumes nothing.
+use borrow.Author.Rules.{rules}
+use Rattle.watch.proofs.is_above.Goals as goal
+
+pub returns : goal.returns
+returns c = rw c.in-Known.is

@@ -1,0 +1,6 @@
+-- `watch::timeout_answer` meets its contract. Assumes nothing.
+use borrow.Author.Rules.{rules}
+use Rattle.watch.proofs.timeout_answer.Goals as goal
+
+pub returns : goal.returns
+returns c = rw c.in-From.is

@@ -1,0 +1,26 @@
+-- `window::confirm_prefix_probe` meets its contract. Assumes nothing.
+use mathlib.Core.Path.{refl}
+use Rattle.model.specs.Numbers.{read_clock}
+use Rattle.model.specs.Refusals.{at}
+use Rattle.refusals.specs.Outcomes.{refused_so, admitted}
+use Rattle.window.specs.Plain.{both_ok, probe_peers, probe_so}
+use borrow.Author.Rules.{rules}
+use Rattle.window.proofs.confirm_prefix_probe.Goals as goal
+
+pub shape_of-words-then-n-ne0 : goal.shape_of-words-then-n-ne0
+shape_of-words-then-n-ne0 c = refl
+
+pub returns-then-n-ne0 : goal.returns-then-n-ne0
+returns-then-n-ne0 c = refused_so _ _ _ (both_ok (at _) _ _ _ c.alternates_ok-seats.ensures _ _ c.refused_by_at-n.ensures) c.if-n-ne0.true
+
+pub confirm_prefix_probe-requires : goal.confirm_prefix_probe-requires
+unfolding read_clock
+confirm_prefix_probe-requires c =
+    let g = admitted _ _ 0 _ c.refused_by_at-n.ensures c.if-n-ne0.false in
+    (g.whole, (g.sound_at, probe_peers _ _ _ c.alternates_ok-seats.ensures g.passes.peers))
+
+pub set_clock-requires : goal.set_clock-requires
+set_clock-requires c = c.confirm_prefix_probe.ensures.whole
+
+pub returns : goal.returns
+returns c = probe_so _ _ _ _ _ _ _ _ (both_ok (at _) _ _ _ c.alternates_ok-seats.ensures _ _ c.refused_by_at-n.ensures) c.if-n-ne0.false c.confirm_prefix_probe.ensures c.set_clock.ensures

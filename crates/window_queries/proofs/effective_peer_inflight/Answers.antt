@@ -1,0 +1,15 @@
+-- `window_queries::effective_peer_inflight` meets its contract. Assumes nothing.
+use mathlib.Core.Path.{ap}
+use Rattle.refusals.specs.Outcomes.{query_refused, query_answered, admitted}
+use Rattle.window_queries.specs.Asks.{number}
+use borrow.Author.Rules.{rules}
+use Rattle.window_queries.proofs.effective_peer_inflight.Goals as goal
+
+pub returns-then-n-ne0 : goal.returns-then-n-ne0
+returns-then-n-ne0 c = query_refused _ _ _ c.refused_by-n.ensures c.if-n-ne0.true
+
+pub effective_peer_inflight-x-requires : goal.effective_peer_inflight-x-requires
+effective_peer_inflight-x-requires c = (admitted _ _ 0 _ c.refused_by-n.ensures c.if-n-ne0.false).whole.long
+
+pub returns : goal.returns
+returns c = query_answered _ _ _ _ c.refused_by-n.ensures c.if-n-ne0.false (ap number c.effective_peer_inflight-x.ensures)

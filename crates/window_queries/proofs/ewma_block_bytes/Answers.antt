@@ -1,0 +1,15 @@
+-- `window_queries::ewma_block_bytes` meets its contract. Assumes nothing.
+use mathlib.Core.Path.{ap}
+use Rattle.refusals.specs.Outcomes.{query_refused, query_answered, admitted}
+use Rattle.window_queries.specs.Asks.{number}
+use borrow.Author.Rules.{rules}
+use Rattle.window_queries.proofs.ewma_block_bytes.Goals as goal
+
+pub returns-then-n-ne0 : goal.returns-then-n-ne0
+returns-then-n-ne0 c = query_refused _ _ _ c.refused_by-n.ensures c.if-n-ne0.true
+
+pub get_mean-x-requires : goal.get_mean-x-requires
+get_mean-x-requires c = (admitted _ _ 0 _ c.refused_by-n.ensures c.if-n-ne0.false).whole.long
+
+pub returns : goal.returns
+returns c = query_answered _ _ _ _ c.refused_by-n.ensures c.if-n-ne0.false (ap number c.get_mean-x.ensures)

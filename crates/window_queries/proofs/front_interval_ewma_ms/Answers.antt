@@ -1,0 +1,17 @@
+-- `window_queries::front_interval_ewma_ms` meets its contract. Assumes nothing.
+use mathlib.Core.Path.{ap, ◌∙◌}
+use Rattle.model.specs.Queries.{perhaps}
+use Rattle.model.specs.Perform.{says}
+use Rattle.model.specs.declared.Pace.{Pace}
+use Rattle.refusals.specs.Outcomes.{query_refused, query_answered, admitted}
+use borrow.Author.Rules.{rules}
+use Rattle.window_queries.proofs.front_interval_ewma_ms.Goals as goal
+
+pub returns-then-n-ne0 : goal.returns-then-n-ne0
+returns-then-n-ne0 c = query_refused _ _ _ c.refused_by-n.ensures c.if-n-ne0.true
+
+pub get_pace-p-requires : goal.get_pace-p-requires
+get_pace-p-requires c = (admitted _ _ 0 _ c.refused_by-n.ensures c.if-n-ne0.false).whole.long
+
+pub returns : goal.returns
+returns c = query_answered _ _ _ _ c.refused_by-n.ensures c.if-n-ne0.false (c.perhaps_stored.ensures ∙ ap (λ (p : Pace). says 0 (perhaps p.mean)) c.get_pace-p.ensures)

@@ -1,0 +1,16 @@
+-- `window_queries::max_pending_blocks` meets its contract. Assumes nothing.
+use mathlib.Core.Path.{ap}
+use Rattle.model.specs.declared.Settings.{Settings}
+use Rattle.refusals.specs.Outcomes.{query_refused, query_answered, admitted}
+use Rattle.window_queries.specs.Asks.{number}
+use borrow.Author.Rules.{rules}
+use Rattle.window_queries.proofs.max_pending_blocks.Goals as goal
+
+pub returns-then-n-ne0 : goal.returns-then-n-ne0
+returns-then-n-ne0 c = query_refused _ _ _ c.refused_by-n.ensures c.if-n-ne0.true
+
+pub get_settings-p-requires : goal.get_settings-p-requires
+get_settings-p-requires c = (admitted _ _ 0 _ c.refused_by-n.ensures c.if-n-ne0.false).whole.long
+
+pub returns : goal.returns
+returns c = query_answered _ _ _ _ c.refused_by-n.ensures c.if-n-ne0.false (ap (λ (p : Settings). number p.max_pending_blocks) c.get_settings-p.ensures)
