@@ -17,11 +17,11 @@ use Rattle.getdata.specs.Answers.{length_words, reads}
 use Rattle.getdata.proofs.Both.{put, put_front, all_of_four}
 
 -- what a test of the code, on a callee's answer, says of what the answer is
-pub told_true : {b x : Bool} → b ≡ x → not b ≡ false → x ≡ true
-told_true {b} e h = sym e ∙ not-false b h
+pub told_true : {b x : Bool} → b ≡ x → b ≡ true → x ≡ true
+told_true e h = sym e ∙ h
 
-pub told_false : {b x : Bool} → b ≡ x → not b ≡ true → x ≡ false
-told_false {b} e h = sym e ∙ not-true b h
+pub told_false : {b x : Bool} → b ≡ x → b ≡ false → x ≡ false
+told_false e h = sym e ∙ h
 
 -- ---- the count, by the first byte
 

@@ -97,6 +97,7 @@ names_count i k (m ∷ l) = elim (both (eqb m.call i)) [
 ]
 
 lent_each : (h : List Done) → AllAsLent h → (d : Done) → Memᴰ d h → AsLent d
+lent_each [] a d m = elim m [ ]
 lent_each (x ∷ h) a d (Memᴰ.head q) = subst AsLent (sym q) a.0
 lent_each (x ∷ h) a d (Memᴰ.tail m) = lent_each h a.1 d m
 

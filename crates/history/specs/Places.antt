@@ -82,7 +82,7 @@ log_once (d ∷ h) i k b =
 
 told_true : (i a : ℕ) (gs : List Release) (n : Mark) → Memᴰ n (told i a gs) → (k : ℕ) × (n.call ≡ i) × (n.place ≡ a + k) × (get_elem? gs k ≡ some (held_by n))
 unfolding told
-told_true i a [] n m = absurd (Memᴰ.not_nil m)
+told_true i a [] n m = absurd (Memᴰ.not-nil m)
 told_true i a (g ∷ gs) n m = by (Memᴰ.cases_cons m) (λ t. told_true i (suc a) gs n t)
   where
     by : (n ≡ naming i a g.reason g.entry) ⊎ Memᴰ n (told i (suc a) gs)
@@ -94,7 +94,7 @@ told_true i a (g ∷ gs) n m = by (Memᴰ.cases_cons m) (λ t. told_true i (suc 
 true_by : (t : Told) (j : ℕ) (log : List Mark) (earlier : ℕ → List Release) (n : Mark)
     → (Memᴰ n log → (n.call < j) × (get_elem? (earlier n.call) n.place ≡ some (held_by n)))
     → Memᴰ n (logs j t log) → (n.call < suc j) × (get_elem? (places_by n.call t j (earlier n.call)) n.place ≡ some (held_by n))
-true_by anew j log earlier n f m = absurd (Memᴰ.not_nil m)
+true_by anew j log earlier n f m = absurd (Memᴰ.not-nil m)
 true_by (counts gs) j log earlier n f m = by (Memᴰ.append_cases log m)
   where
     by : Memᴰ n log ⊎ Memᴰ n (told j 0 gs) → (n.call < suc j) × (get_elem? (cond (eqb n.call j) gs (earlier n.call)) n.place ≡ some (held_by n))
@@ -106,7 +106,7 @@ true_by (counts gs) j log earlier n f m = by (Memᴰ.append_cases log m)
 
 pub log_true : (h : List Done) (n : Mark) → Memᴰ n (log_of h) → (n.call < length h) × (get_elem? (places_at h n.call) n.place ≡ some (held_by n))
 unfolding log_of places_at
-log_true [] n m = absurd (Memᴰ.not_nil m)
+log_true [] n m = absurd (Memᴰ.not-nil m)
 log_true (d ∷ h) n m = true_by (tells d) (length h) (log_of h) (places_at h) n (λ t. log_true h n t) m
 
 -- ---- membership goes along with `Same`

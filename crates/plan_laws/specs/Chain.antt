@@ -88,12 +88,14 @@ higher_select p lo (a ∷ ks) r = elim (both (p a)) [
 ]
 
 higher_at : (lo : ℕ) (a : Ask) (ks : List Ask) → Memᴰ a ks → Higher lo ks → lo ≤ a.height
+higher_at lo a [] m r = elim m [ ]
 higher_at lo a (x ∷ ks) (Memᴰ.head e) r = omega (arith, ap (λ (y : Ask). y.height) e)
 higher_at lo a (x ∷ ks) (Memᴰ.tail m) r = omega (arith, higher_at (suc x.height) a ks m r.1)
 
 -- an entry is among the first n, or these are all lower
 pub first_or_lower : (n lo : ℕ) (a : Ask) (ks : List Ask) → Memᴰ a ks → Higher lo ks → Memᴰ a (take n ks) ⊎ Every (λ x. x.height < a.height) (take n ks)
 first_or_lower zero lo a ks m r = inr tt
+first_or_lower (suc n) lo a [] m r = elim m [ ]
 first_or_lower (suc n) lo a (x ∷ ks) (Memᴰ.head e) r = inl (Memᴰ.head e)
 first_or_lower (suc n) lo a (x ∷ ks) (Memᴰ.tail m) r = elim (first_or_lower n (suc x.height) a ks m r.1) [
   | inl k ↦ inl (Memᴰ.tail k)

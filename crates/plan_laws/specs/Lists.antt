@@ -92,6 +92,7 @@ module _ {A : Type 0} where
 
     pub member_any : (x : A) (l : List A) → Memᴰ x l → p x ≡ true → any p l ≡ true
     unfolding any
+    member_any x [] m e = elim m [ ]
     member_any x (y ∷ l) (Memᴰ.head q) e = rw (subst (λ (z : A). p z ≡ true) q e)
     member_any x (y ∷ l) (Memᴰ.tail m) e = elim (both (p y)) [
       | inl q ↦ rw q
@@ -116,6 +117,7 @@ module _ {A : Type 0} where
 
     pub member_select : (x : A) (l : List A) → Memᴰ x l → p x ≡ true → Memᴰ x (select p l)
     unfolding select
+    member_select x [] m e = elim m [ ]
     member_select x (y ∷ l) (Memᴰ.head q) e = rw (subst (λ (z : A). p z ≡ true) q e) (Memᴰ.head q)
     member_select x (y ∷ l) (Memᴰ.tail m) e = elim (both (p y)) [
       | inl q ↦ rw q (Memᴰ.tail (member_select x l m e))

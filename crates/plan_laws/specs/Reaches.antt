@@ -51,6 +51,7 @@ module _ (l : Lent) (n : ℕ) where
   -- a refused one at a height up to n is noted
   noticed_some : (ks : List Ask) (low : Height) (a : Ask) → Memᴰ a ks → is_refused l a ≡ true → a.height ≤ n → AtMost n (noticed l ks low)
   unfolding noticed
+  noticed_some [] low a m r b = elim m [ ]
   noticed_some (x ∷ ks) low a (mathlib.Core.List.Memᴰ.head e) r b =
       let r' : is_refused l x ≡ true = subst (λ (y : Ask). is_refused l y ≡ true) e r in
       let b' : x.height ≤ n = subst (λ (y : Ask). y.height ≤ n) e b in

@@ -1,6 +1,6 @@
 pub mod Found
 pub mod Notes
 pub mod Request
-pub mod Contracts
+pub mod Promises
 pub mod Turns
 pub mod Proposes

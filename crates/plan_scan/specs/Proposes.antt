@@ -21,7 +21,7 @@ use Rattle.plan_look.specs.Scan.{Scanned, scanned, scan_over}
 use Rattle.plan_scan.specs.Notes.{greater_max, held_twice}
 use Rattle.plan_scan.specs.Request.{is_unknown, ended, next_from, met_none, last_height, scan_end, is_met_none, request_scanned, request_over}
 use Rattle.plan_look.specs.Plan.{height_word, height_of, height_back, Drawn}
-use Rattle.plan_scan.specs.Contracts.{Scannable, Scans, scan_says, scan_at, Plannable, Given, Planned, Proposes}
+use Rattle.plan_scan.specs.Promises.{Scannable, Scans, scan_says, scan_at, Plannable, Given, Planned, Proposes}
 
 -- what the code answers, of n asks
 abbrev pub Answers : ℕ → ℕ → Proposed → Type 0

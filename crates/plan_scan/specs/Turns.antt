@@ -19,7 +19,7 @@ use Rattle.plan_look.specs.declared.Look.{Look}
 use Rattle.plan_look.specs.Scan.{Scanned, scanned, passes, look_of, look, looked, scan_over, scan_append, scan_full}
 use Rattle.plan_scan.specs.Request.{heights_length}
 use Rattle.plan_look.specs.Plan.{count_after, first_after, next_past, words_after, Drawn, drawn_turn}
-use Rattle.plan_scan.specs.Contracts.{Scannable, Scans}
+use Rattle.plan_scan.specs.Promises.{Scannable, Scans}
 
 heights_at : (hs : List Hash) (n j : ℕ) (z : Ask) (g : Hash) → j < length hs → get_or (heights_from n hs) j z ≡ ask (get_or hs j g) (n + j)
 unfolding heights_from

@@ -8,7 +8,7 @@ ghost use Rattle.model.specs.Planning.{held_back};
 ghost use Rattle.model.specs.Layout.{window_of};
 ghost use Rattle.plan_look.specs.Plan.{height_of};
 ghost use Rattle.plan_look.specs.Steps.{Asked};
-ghost use Rattle.plan_scan.specs.Contracts.{Scannable, Scans, Plannable, Proposes, scan_says, scan_at};
+ghost use Rattle.plan_scan.specs.Promises.{Scannable, Scans, Plannable, Proposes, scan_says, scan_at};
 
 use model::Height;
 use model::sizes::HASH_WORDS;

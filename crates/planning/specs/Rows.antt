@@ -21,8 +21,8 @@ use Rattle.plan_look.specs.Steps.{Asked, Rewinds, rewound_sound}
 use Rattle.plan_scan.specs.declared.RequestScan.{RequestScan}
 use Rattle.plan_scan.specs.declared.Proposed as scanned
 use Rattle.plan_scan.specs.Proposes.{plannable}
-use Rattle.plan_scan.specs.Contracts.{scan_says, scan_at, scan_of_is, Plannable, Planned}
-use Rattle.plan_scan.specs.Contracts as scan
+use Rattle.plan_scan.specs.Promises.{scan_says, scan_at, scan_of_is, Plannable, Planned}
+use Rattle.plan_scan.specs.Promises as scan
 use Rattle.planning.specs.Proposes.{lent}
 use Rattle.planning.specs.Swept.{step, Swept, Requests}
 

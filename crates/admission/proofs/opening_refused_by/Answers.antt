@@ -23,7 +23,7 @@ returns-then-not-settings_fit c =
     let t = c.clock_fits in
     let s = c.settings_fit in
     opening_5 a.clock a.b a.keys.now a.words.now c.if-words-ne-WORDS.false (low_enough t.result a.clock t.ensures c.if-not-clock_fits.false)
-    (sym s.ensures ∙ not-true s.result c.if-not-settings_fit.true)
+    (sym s.ensures ∙ c.if-not-settings_fit.true)
 
 pub returns-then-not-keys_fit : goal.returns-then-not-keys_fit
 returns-then-not-keys_fit c =
@@ -32,7 +32,7 @@ returns-then-not-keys_fit c =
     let s = c.settings_fit in
     let k = c.keys_fit in
     opening_6 a.clock a.b a.keys.now a.words.now c.if-words-ne-WORDS.false (low_enough t.result a.clock t.ensures c.if-not-clock_fits.false)
-    (sym s.ensures ∙ not-false s.result c.if-not-settings_fit.false) (sym k.ensures ∙ not-true k.result c.if-not-keys_fit.true)
+    (sym s.ensures ∙ c.if-not-settings_fit.false) (sym k.ensures ∙ c.if-not-keys_fit.true)
 
 pub returns : goal.returns
 returns c =
@@ -41,4 +41,4 @@ returns c =
     let s = c.settings_fit in
     let k = c.keys_fit in
     opening_0 a.clock a.b a.keys.now a.words.now c.if-words-ne-WORDS.false (low_enough t.result a.clock t.ensures c.if-not-clock_fits.false)
-    (sym s.ensures ∙ not-false s.result c.if-not-settings_fit.false) (sym k.ensures ∙ not-false k.result c.if-not-keys_fit.false)
+    (sym s.ensures ∙ c.if-not-settings_fit.false) (sym k.ensures ∙ c.if-not-keys_fit.false)

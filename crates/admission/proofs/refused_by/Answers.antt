@@ -25,7 +25,7 @@ returns-then-not-peers c =
     let n = c.if-words-ne-WORDS.false in
     let w = c.is_window in
     let v = a_window ws n w.result w.ensures c.if-not-is_window.false in
-    refused_6 _ _ 0 n v (report_none 0) refl (not-true a.peers c.if-not-peers.true)
+    refused_6 _ _ 0 n v (report_none 0) refl (c.if-not-peers.true)
 
 pub returns : goal.returns
 returns c =
@@ -34,4 +34,4 @@ returns c =
     let n = c.if-words-ne-WORDS.false in
     let w = c.is_window in
     let v = a_window ws n w.result w.ensures c.if-not-is_window.false in
-    by_content _ _ 0 n v (report_none 0) refl (not-false a.peers c.if-not-peers.false)
+    by_content _ _ 0 n v (report_none 0) refl (c.if-not-peers.false)

@@ -39,7 +39,7 @@ returns-then-not-peers c =
     let g = at_clock true ws a.room (sym c.if-k-ne0.false ∙ c.timeless_report_refused_by-k.ensures) in
     let l = c.get_clock-accepted in
     let k = c.clock_fits in
-    refused_6 x ws a.room g.0 g.1 g.2 (in_time k.result l.result (window_of ws).clock a.clock k.ensures l.ensures c.if-not-clock_fits.false) (not-true a.peers c.if-not-peers.true)
+    refused_6 x ws a.room g.0 g.1 g.2 (in_time k.result l.result (window_of ws).clock a.clock k.ensures l.ensures c.if-not-clock_fits.false) (c.if-not-peers.true)
 
 pub returns : goal.returns
 returns c =
@@ -49,4 +49,4 @@ returns c =
     let g = at_clock true ws a.room (sym c.if-k-ne0.false ∙ c.timeless_report_refused_by-k.ensures) in
     let l = c.get_clock-accepted in
     let k = c.clock_fits in
-    by_content x ws a.room g.0 g.1 g.2 (in_time k.result l.result (window_of ws).clock a.clock k.ensures l.ensures c.if-not-clock_fits.false) (not-false a.peers c.if-not-peers.false)
+    by_content x ws a.room g.0 g.1 g.2 (in_time k.result l.result (window_of ws).clock a.clock k.ensures l.ensures c.if-not-clock_fits.false) (c.if-not-peers.false)

@@ -41,7 +41,7 @@ returns-then-not-peers c =
     let w = c.is_window in
     let v = a_window ws n w.result w.ensures c.if-not-is_window.false in
     let r = report_long a.room c.if-room-lt-PLACES.false in
-    refused_6 k ws a.room n v r refl (not-true a.peers c.if-not-peers.true)
+    refused_6 k ws a.room n v r refl (c.if-not-peers.true)
 
 pub returns : goal.returns
 returns c =
@@ -52,4 +52,4 @@ returns c =
     let w = c.is_window in
     let v = a_window ws n w.result w.ensures c.if-not-is_window.false in
     let r = report_long a.room c.if-room-lt-PLACES.false in
-    by_content k ws a.room n v r refl (not-false a.peers c.if-not-peers.false)
+    by_content k ws a.room n v r refl (c.if-not-peers.false)

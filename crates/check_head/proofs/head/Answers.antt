@@ -10,11 +10,11 @@ use Rattle.check_head.proofs.head.Goals.{Else-not-counts}
 use Rattle.check_head.proofs.head.Goals as goal
 
 holds : (c : Else-not-counts) → counts_ok (decode c.args.w.now) ≡ true
-holds c = sym c.counts.ensures ∙ not-false c.counts.result c.if-not-counts.false
+holds c = sym c.counts.ensures ∙ c.if-not-counts.false
 
 pub returns-then-not-counts : goal.returns-then-not-counts
 unfolding head_fits
-returns-then-not-counts c = sym (ap (λ (q : Bool). q && later_fits c.args.w.now) (sym c.counts.ensures ∙ not-true c.counts.result c.if-not-counts.true))
+returns-then-not-counts c = sym (ap (λ (q : Bool). q && later_fits c.args.w.now) (sym c.counts.ensures ∙ c.if-not-counts.true))
 
 pub parts-requires : goal.parts-requires
 parts-requires c = let ws = c.args.w.now in (c.requires, counts_clock ws (holds (goal.at.parts-requires c).Else-not-counts))

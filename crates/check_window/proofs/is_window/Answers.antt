@@ -10,10 +10,10 @@ use Rattle.check_window.proofs.is_window.Goals as goal
 
 -- what holds past each exit
 is_head : (c : Else-not-head) → head_fits c.args.words.now ≡ true
-is_head c = sym c.head.ensures ∙ not-false c.head.result c.if-not-head.false
+is_head c = sym c.head.ensures ∙ c.if-not-head.false
 
 is_unused : (c : Else-not-unused) → unused_zero c.args.words.now ≡ true
-is_unused c = sym c.unused.ensures ∙ not-false c.unused.result c.if-not-unused.false
+is_unused c = sym c.unused.ensures ∙ c.if-not-unused.false
 
 pub returns-then-words-ne-WORDS : goal.returns-then-words-ne-WORDS
 unfolding fits conditions fold
@@ -26,7 +26,7 @@ pub returns-then-not-head : goal.returns-then-not-head
 unfolding fits conditions fold
 returns-then-not-head c =
     let w = c.args.words.now in
-    let f = sym c.head.ensures ∙ not-true c.head.result c.if-not-head.true in
+    let f = sym c.head.ensures ∙ c.if-not-head.true in
     sym (λ j. eq-eqb (length w) 4096 c.if-words-ne-WORDS.false j && f j && unused_zero w && records_fit w && total_fits w && seats_fit w)
     ∙ fits_is w
 
@@ -37,7 +37,7 @@ pub returns-then-not-unused : goal.returns-then-not-unused
 unfolding fits conditions fold
 returns-then-not-unused c =
     let w = c.args.words.now in
-    let f = sym c.unused.ensures ∙ not-true c.unused.result c.if-not-unused.true in
+    let f = sym c.unused.ensures ∙ c.if-not-unused.true in
     let at = c in
     sym (λ j. eq-eqb (length w) 4096 at.if-words-ne-WORDS.false j && is_head (goal.at.returns-then-not-unused c).Else-not-head j && f j && records_fit w && total_fits w && seats_fit w)
     ∙ fits_is w

@@ -16,14 +16,14 @@ unfolding records_fit
 leaves w i h e = sym (ap (λ (q : Bool). q && total_fits w && seats_fit w) (all_fails (record_fits w) (count w) i h e))
 
 -- a turn that goes on: record i fits
-turn_fits : (c : Else-not-rising → record_fits c.args.w.now c.loop-i.i ≡ true
+turn_fits : (c : Else-not-rising) → record_fits c.args.w.now c.loop-i.i ≡ true
 unfolding record_fits
 turn_fits c =
     and_both (fields_fit c.args.w.now c.loop-i.i) (rises c.args.w.now c.loop-i.i)
-    (sym c.fields.ensures ∙ not-false c.fields.result c.if-not-fields.false)
-    (sym c.rising.ensures ∙ not-false c.rising.result c.if-not-rising.false)
+    (sym c.fields.ensures ∙ c.if-not-fields.false)
+    (sym c.rising.ensures ∙ c.if-not-rising.false)
 
-turn_known : (c : Else-not-rising → Known c.args.w.now c.loop-i.i
+turn_known : (c : Else-not-rising) → Known c.args.w.now c.loop-i.i
 turn_known c = known c.args.w.now c.loop-i.i (turn_fits c)
 
 pub loop-i-init : goal.loop-i-init
@@ -37,7 +37,7 @@ unfolding record_fits
 returns-then-not-fields c =
     let w = c.args.w.now in
     let i = c.loop-i.i in
-    leaves w i (omega arith) (ap (λ (q : Bool). q && rises w i) (sym c.fields.ensures ∙ not-true c.fields.result c.if-not-fields.true))
+    leaves w i (omega arith) (ap (λ (q : Bool). q && rises w i) (sym c.fields.ensures ∙ c.if-not-fields.true))
 
 pub returns-then-not-rising : goal.returns-then-not-rising
 unfolding record_fits
@@ -45,7 +45,7 @@ returns-then-not-rising c =
     let w = c.args.w.now in
     let i = c.loop-i.i in
     leaves w i (omega arith)
-    (ap (λ (q : Bool). fields_fit w i && q) (sym c.rising.ensures ∙ not-true c.rising.result c.if-not-rising.true) ∙ and-false (fields_fit w i))
+    (ap (λ (q : Bool). fields_fit w i && q) (sym c.rising.ensures ∙ c.if-not-rising.true) ∙ and-false (fields_fit w i))
 
 pub offset_bounds-first-s : goal.offset_bounds-first-s
 offset_bounds-first-s c = let k = turn_known (goal.at.offset_bounds-first-s c).Else-not-rising in omega (arith, k.seat, c.to_usize-s.ensures)

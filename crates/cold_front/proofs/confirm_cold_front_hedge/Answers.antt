@@ -10,14 +10,14 @@ use borrow.Author.Rules.{rules}
 use Rattle.cold_front.proofs.confirm_cold_front_hedge.Goals as goal
 
 pub returns-then-not-waits_for : goal.returns-then-not-waits_for
-returns-then-not-waits_for c = subst (λ (v : Window). Holds v c.args.words.now) (confirm_not c.args.owner c.args.alternate c.args.h (window_of c.args.words.now) c.get_cold-cold.result c.get_cold-cold.ensures (sym c.waits_for.ensures ∙ not-true _ c.if-not-waits_for.true)) (holds_whole c.args.words.now c.requires)
+returns-then-not-waits_for c = subst (λ (v : Window). Holds v c.args.words.now) (confirm_not c.args.owner c.args.alternate c.args.h (window_of c.args.words.now) c.get_cold-cold.result c.get_cold-cold.ensures (sym c.waits_for.ensures ∙ c.if-not-waits_for.true)) (holds_whole c.args.words.now c.requires)
 
 pub returns-then-is_hedged : goal.returns-then-is_hedged
-returns-then-is_hedged c = subst (λ (v : Window). Holds v c.set_cold.new.words) (confirm_known c.args.owner c.args.alternate c.args.h (window_of c.args.words.now) c.get_cold-cold.result c.get_cold-cold.ensures (sym c.waits_for.ensures ∙ not-false _ c.if-not-waits_for.false) (sym c.is_hedged.ensures ∙ c.if-is_hedged.true)) c.set_cold.ensures
+returns-then-is_hedged c = subst (λ (v : Window). Holds v c.set_cold.new.words) (confirm_known c.args.owner c.args.alternate c.args.h (window_of c.args.words.now) c.get_cold-cold.result c.get_cold-cold.ensures (sym c.waits_for.ensures ∙ c.if-not-waits_for.false) (sym c.is_hedged.ensures ∙ c.if-is_hedged.true)) c.set_cold.ensures
 
 pub returns-then-hedged_count-ge-MAX_COLD_FRONT_HEDGES : goal.returns-then-hedged_count-ge-MAX_COLD_FRONT_HEDGES
-returns-then-hedged_count-ge-MAX_COLD_FRONT_HEDGES c = subst (λ (v : Window). Holds v c.args.words.now) (confirm_full c.args.owner c.args.alternate c.args.h (window_of c.args.words.now) c.get_cold-cold.result c.get_cold-cold.ensures (sym c.waits_for.ensures ∙ not-false _ c.if-not-waits_for.false) (sym c.is_hedged.ensures ∙ c.if-is_hedged.false) c.hedged_count.result c.hedged_count.ensures c.if-hedged_count-ge-MAX_COLD_FRONT_HEDGES.true) (holds_whole c.args.words.now c.requires)
+returns-then-hedged_count-ge-MAX_COLD_FRONT_HEDGES c = subst (λ (v : Window). Holds v c.args.words.now) (confirm_full c.args.owner c.args.alternate c.args.h (window_of c.args.words.now) c.get_cold-cold.result c.get_cold-cold.ensures (sym c.waits_for.ensures ∙ c.if-not-waits_for.false) (sym c.is_hedged.ensures ∙ c.if-is_hedged.false) c.hedged_count.result c.hedged_count.ensures c.if-hedged_count-ge-MAX_COLD_FRONT_HEDGES.true) (holds_whole c.args.words.now c.requires)
 
 pub returns : goal.returns
-returns c = subst (λ (v : Window). Holds v c.set_cold-2.new.words) (confirm_new c.args.owner c.args.alternate c.args.h (window_of c.args.words.now) c.get_cold-cold.result c.get_cold-cold.ensures (sym c.waits_for.ensures ∙ not-false _ c.if-not-waits_for.false) (sym c.is_hedged.ensures ∙ c.if-is_hedged.false) c.hedged_count.result c.hedged_count.ensures c.if-hedged_count-ge-MAX_COLD_FRONT_HEDGES.false)
+returns c = subst (λ (v : Window). Holds v c.set_cold-2.new.words) (confirm_new c.args.owner c.args.alternate c.args.h (window_of c.args.words.now) c.get_cold-cold.result c.get_cold-cold.ensures (sym c.waits_for.ensures ∙ c.if-not-waits_for.false) (sym c.is_hedged.ensures ∙ c.if-is_hedged.false) c.hedged_count.result c.hedged_count.ensures c.if-hedged_count-ge-MAX_COLD_FRONT_HEDGES.false)
     (subst (λ (v : Window). Holds (with_cold (Racing c.args.owner c.args.alternate c.args.h) v) c.set_cold-2.new.words) c.push_hedged.ensures.is c.set_cold-2.ensures)

@@ -11,7 +11,7 @@ use Rattle.listed.proofs.chained.Goals.{Start}
 use Rattle.listed.proofs.chained.Goals as goal
 
 -- what is known of the words where the function starts
-module _ (s : Start where
+module _ (s : Start) where
   abbrev wanted : Hash
   wanted = hash s.args.a s.args.b s.args.c s.args.d
 

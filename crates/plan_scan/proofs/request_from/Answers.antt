@@ -11,7 +11,7 @@ returns-then-not-scans c =
     let s = c in
     let a = s.args in
     proposes_over a.chain.now a.staged.now a.refused.now (window_of a.words.now) a.hashes.now a.heights.now a.scan a.count a.low _ _ s.requires.1.frontier
-    (sym c.scans.ensures ∙ not-true _ c.if-not-scans.true) c.held_back-next.ensures c.non_empty_request.ensures
+    (sym c.scans.ensures ∙ c.if-not-scans.true) c.held_back-next.ensures c.non_empty_request.ensures
 
 pub request_by_scan-requires : goal.request_by_scan-requires
 request_by_scan-requires c =

@@ -33,7 +33,7 @@ pub height_at-x-requires : goal.height_at-x-requires
 height_at-x-requires c = (c.requires.0, omega (arith, c.loop-i.invariant.0.bound))
 
 -- one more turn of the search, before it is known whether it is at a gap
-turned : (c : After-at_gap
+turned : (c : After-at_gap)
     → Searching c.walk.expected c.walk.n c.args.limit (c.loop-i.i - 1) c.nearer-at.result c.walk.marks (window_of c.args.words.now).queue.pending
 turned c =
     let s = c in
@@ -58,7 +58,7 @@ loop-i-preserved c =
     (turned (goal.at.loop-i-preserved c).After-at_gap, λ z. let free = gap_left i at count (sym c.at_gap.ensures ∙ c.if-at_gap.false) z in omega (arith, (least (omega (arith, z))).1.1, free, c.pending_count-count.ensures.0))
 
 -- after the search: no entry is behind, and the first that follows is found
-module _ (c : After-loop-i where
+module _ (c : After-loop-i) where
   abbrev entries : List Entry
   entries = (window_of c.args.words.now).queue.pending
 

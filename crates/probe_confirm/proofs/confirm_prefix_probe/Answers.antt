@@ -48,7 +48,7 @@ returns-then-not-is_plan c =
     let s = c in
     let ws = s.args.words.now in
     let m = c.make_plan-p in
-    subst (λ (v : Window). Holds v ws) (confirm_not s.args.owner s.args.given.now s.args.clock (window_of ws) s.args.alternates.now c.if-alternates-eq0.false m.result m.ensures (omega (arith, c.if-n-lt4.false)) c.if-planned-owner.false c.plan_hashes-rows.result c.plan_hashes-rows.ensures (sym c.is_plan.ensures ∙ not-true c.is_plan.result c.if-not-is_plan.true)) (holds_whole ws s.requires.0)
+    subst (λ (v : Window). Holds v ws) (confirm_not s.args.owner s.args.given.now s.args.clock (window_of ws) s.args.alternates.now c.if-alternates-eq0.false m.result m.ensures (omega (arith, c.if-n-lt4.false)) c.if-planned-owner.false c.plan_hashes-rows.result c.plan_hashes-rows.ensures (sym c.is_plan.ensures ∙ c.if-not-is_plan.true)) (holds_whole ws s.requires.0)
 
 pub start_probe-requires : goal.start_probe-requires
 start_probe-requires c =
@@ -62,4 +62,4 @@ returns c =
     let s = c in
     let ws = s.args.words.now in
     let m = c.make_plan-p in
-    subst (λ (v : Window). Holds v c.start_probe.new.words) (confirm_is s.args.owner s.args.given.now s.args.clock (window_of ws) s.args.alternates.now c.if-alternates-eq0.false m.result m.ensures (omega (arith, c.if-n-lt4.false)) c.if-planned-owner.false c.plan_hashes-rows.result c.plan_hashes-rows.ensures (sym c.is_plan.ensures ∙ not-false c.is_plan.result c.if-not-is_plan.false)) c.start_probe.ensures
+    subst (λ (v : Window). Holds v c.start_probe.new.words) (confirm_is s.args.owner s.args.given.now s.args.clock (window_of ws) s.args.alternates.now c.if-alternates-eq0.false m.result m.ensures (omega (arith, c.if-n-lt4.false)) c.if-planned-owner.false c.plan_hashes-rows.result c.plan_hashes-rows.ensures (sym c.is_plan.ensures ∙ c.if-not-is_plan.false)) c.start_probe.ensures

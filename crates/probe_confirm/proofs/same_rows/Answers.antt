@@ -30,7 +30,7 @@ returns-then-not-same_row c =
     let l = c.loop-i in
     let s = c in
     sym (l.invariant.1 ∙ same_step s.args.t1 s.args.t2 l.i (omega (arith, c.loop-i-test.true))
-    ∙ ap (λ (q : Bool). q && same_from s.args.t1 s.args.t2 (l.i + 1)) (sym c.same_row.ensures ∙ not-true c.same_row.result c.if-not-same_row.true))
+    ∙ ap (λ (q : Bool). q && same_from s.args.t1 s.args.t2 (l.i + 1)) (sym c.same_row.ensures ∙ c.if-not-same_row.true))
 
 pub overflow_add-i : goal.overflow_add-i
 overflow_add-i c = omega (arith, c.loop-i-test.true)
@@ -44,7 +44,7 @@ loop-i-preserved c =
     let s = c in (
       omega (arith, c.loop-i-test.true),
       l.invariant.1 ∙ same_step s.args.t1 s.args.t2 l.i (omega (arith, c.loop-i-test.true))
-          ∙ ap (λ (q : Bool). q && same_from s.args.t1 s.args.t2 (l.i + 1)) (sym c.same_row.ensures ∙ not-false c.same_row.result c.if-not-same_row.false),
+          ∙ ap (λ (q : Bool). q && same_from s.args.t1 s.args.t2 (l.i + 1)) (sym c.same_row.ensures ∙ c.if-not-same_row.false),
     )
 
 pub returns : goal.returns

@@ -17,7 +17,7 @@ use Rattle.probe_hashes.proofs.plan_hashes.Goals as goal
 pub loop-i-init : goal.loop-i-init
 loop-i-init c = (omega arith, filled_start _)
 
-within : (c : In-loop-i → c.loop-i.i < 8
+within : (c : In-loop-i) → c.loop-i.i < 8
 within c =
     let s = c in
     omega (arith, c.loop-i-test.true, how_few s.args.p (window_of s.args.words.now) s.requires.1 c.how_many-n.result c.how_many-n.ensures, s.requires.1.few)

@@ -16,8 +16,8 @@ use Rattle.records.proofs.lowest_place.Given as goal
 
 -- from i on: no record yet, or the lowest is at `best`
 pub data Lowest (ws : List ℕ) (m best low i : ℕ) : Type 0 where
-  pub none : i ≡ m → best ≡ m → low ≡ 18446744073709551615 → Lowest ws m best low i
-  pub some : i ≤ best → best < m → lowest (drop i (take m (rows 256 ws))) ≡ At (entry_at (drop best ws)) → (entry_at (drop best ws)).height ≡ low
+  none : i ≡ m → best ≡ m → low ≡ 18446744073709551615 → Lowest ws m best low i
+  some : i ≤ best → best < m → lowest (drop i (take m (rows 256 ws))) ≡ At (entry_at (drop best ws)) → (entry_at (drop best ws)).height ≡ low
       → Lowest ws m best low i
 
 abbrev pub invariant-loop-i : goal.invariant-loop-i

@@ -65,7 +65,7 @@ loop-lo-preserved c =
     record {
       order = omega arith;
       top = omega (arith, inv.top);
-      before = inv;
+      before = inv.before;
       from = λ l. at m k ws h l (omega arith) ∙ sym c.comes_before.ensures ∙ c.if-comes_before.false;
     }
 
@@ -81,6 +81,6 @@ returns c =
     let same : at-loop.loop-lo.hi ≡ at-loop.loop-lo.lo = omega (arith, inv.order) in
     record {
       within = omega (arith, inv.order, inv.top);
-      before = inv;
+      before = inv.before;
       from = λ l. ap (λ (n : ℕ). less (get_or (L m ws) n blank).hash at-start.args.h) (sym same) ∙ inv.from (omega (arith, l));
     }

@@ -16,7 +16,7 @@ pub loop-i-init : goal.loop-i-init
 loop-i-init c = refl
 
 -- in a turn an ask is at i
-turn : (c : In-loop-i → AskAt c.args.hashes.now c.args.heights.now c.loop-i.i
+turn : (c : In-loop-i) → AskAt c.args.hashes.now c.args.heights.now c.loop-i.i
 turn c = ask_there _ _ _ _ c.asked-n.ensures c.loop-i-test.true
 
 pub overflow_mul-i : goal.overflow_mul-i

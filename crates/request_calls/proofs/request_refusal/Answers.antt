@@ -17,7 +17,7 @@ pub returns-then-not-none_pending : goal.returns-then-not-none_pending
 returns-then-not-none_pending c =
     let a = c.args in
     let p = c.none_pending in
-    list_pending (asks_in a.hashes.now a.heights.now) (window_of a.words.now) (sym p.ensures ∙ not-true p.result c.if-not-none_pending.true)
+    list_pending (asks_in a.hashes.now a.heights.now) (window_of a.words.now) (sym p.ensures ∙ c.if-not-none_pending.true)
 
 pub returns-then-not-listed_once : goal.returns-then-not-listed_once
 returns-then-not-listed_once c =
@@ -26,7 +26,7 @@ returns-then-not-listed_once c =
     let w = window_of a.words.now in
     let p = c.none_pending in
     let o = c.listed_once in
-    list_twice l w (sym p.ensures ∙ not-false p.result c.if-not-none_pending.false) (sym o.ensures ∙ not-true o.result c.if-not-listed_once.true)
+    list_twice l w (sym p.ensures ∙ c.if-not-none_pending.false) (sym o.ensures ∙ c.if-not-listed_once.true)
 
 pub overflow_sub-count : goal.overflow_sub-count
 overflow_sub-count c = omega (arith, c.pending_count-count.ensures.1)
@@ -39,7 +39,7 @@ returns-then-n-count c =
     let p = c.none_pending in
     let o = c.listed_once in
     let k = c.asked-n.ensures ∙ sym (asks_length a.hashes.now a.heights.now) in
-    list_many l w (sym p.ensures ∙ not-false p.result c.if-not-none_pending.false) (sym o.ensures ∙ not-false o.result c.if-not-listed_once.false)
+    list_many l w (sym p.ensures ∙ c.if-not-none_pending.false) (sym o.ensures ∙ c.if-not-listed_once.false)
     c.pending_count-count.result c.asked-n.result c.pending_count-count.ensures.0 k (omega (arith, c.if-n-count.true))
 
 pub returns : goal.returns
@@ -50,5 +50,5 @@ returns c =
     let p = c.none_pending in
     let o = c.listed_once in
     let k = c.asked-n.ensures ∙ sym (asks_length a.hashes.now a.heights.now) in
-    list_good l w (sym p.ensures ∙ not-false p.result c.if-not-none_pending.false) (sym o.ensures ∙ not-false o.result c.if-not-listed_once.false)
+    list_good l w (sym p.ensures ∙ c.if-not-none_pending.false) (sym o.ensures ∙ c.if-not-listed_once.false)
     c.pending_count-count.result c.asked-n.result c.pending_count-count.ensures.0 k c.pending_count-count.ensures.1 (omega (arith, c.if-n-count.false))

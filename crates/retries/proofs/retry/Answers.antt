@@ -24,14 +24,14 @@ start c = c
 abbrev asks : At-loop-i → List Ask
 asks c = swept_asks (releases_of (start c).args.n (start c).args.gone.now)
 
-room : (c : At-loop-i → (start c).args.n ≤ length (start c).args.keys.now
+room : (c : At-loop-i) → (start c).args.n ≤ length (start c).args.keys.now
 room c = omega (arith, (start c).requires.0.few, (start c).requires.1.0)
 
 -- the next of the swept
-abbrev next_entry : (c : At-loop-i → Ask
+abbrev next_entry : (c : At-loop-i) → Ask
 next_entry c = asks_for (entry_from (start c).args.gone.now (get_or (start c).args.keys.now c.loop-i.i 0 % 256))
 
-module _ (c : At-loop-i (below : c.loop-i.i < (start c).args.n) where
+module _ (c : At-loop-i) (below : c.loop-i.i < (start c).args.n) where
   next : drop c.loop-i.i (asks c) ≡ next_entry c ∷ drop (suc c.loop-i.i) (asks c)
   next = next_ask (start c).args.gone.now (start c).args.keys.now (start c).args.n (room c) (asks c) (start c).requires.1.1.0 c.loop-i.i below
 

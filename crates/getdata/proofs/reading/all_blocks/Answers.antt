@@ -17,14 +17,14 @@ returns-then-not-is_block c =
     let a = c.args in
     let v = c.loop-i in
     let b = c.is_block in
-    sym (v.invariant.1 ∙ blocks_off a.entries.now v.i a.n b.result _ (rest_of (36 * v.i) a.entries.now) b.ensures (omega arith) (not-true _ c.if-not-is_block.true))
+    sym (v.invariant.1 ∙ blocks_off a.entries.now v.i a.n b.result _ (rest_of (36 * v.i) a.entries.now) b.ensures (omega arith) (c.if-not-is_block.true))
 
 pub loop-i-preserved : goal.loop-i-preserved
 loop-i-preserved c =
     let a = c.args in
     let v = c.loop-i in
     let b = c.is_block in
-    let on = blocks_on a.entries.now v.i a.n b.result _ (rest_of (36 * v.i) a.entries.now) b.ensures (omega arith) (not-false _ c.if-not-is_block.false) in
+    let on = blocks_on a.entries.now v.i a.n b.result _ (rest_of (36 * v.i) a.entries.now) b.ensures (omega arith) (c.if-not-is_block.false) in
     (omega arith, v.invariant.1 ∙ on)
 
 pub returns : goal.returns
