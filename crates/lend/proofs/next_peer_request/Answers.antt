@@ -1,0 +1,7 @@
+-- `lend::next_peer_request` meets its contract. Assumes nothing.
+use Rattle.model.specs.Says.{next_request_says}
+use Rattle.lend.proofs.Lends.{lends_planned}
+use Rattle.lend.proofs.next_peer_request.Goals as goal
+
+pub returns : goal.returns
+returns c = lends_planned _ _ _ next_request_says _ _ _ _ _ _ c.unfilled-report.ensures c.of_next.ensures _ _ _ _ c.next_peer_request-answer.ensures

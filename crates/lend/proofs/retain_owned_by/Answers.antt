@@ -1,0 +1,7 @@
+-- `lend::retain_owned_by` meets its contract. Assumes nothing.
+use Rattle.model.specs.Says.{let_go_says}
+use Rattle.lend.proofs.Lends.{lends}
+use Rattle.lend.proofs.retain_owned_by.Goals as goal
+
+pub returns : goal.returns
+returns c = lends _ _ _ let_go_says _ _ _ _ _ _ c.unfilled-report.ensures c.of_let_go.ensures c.retain_owned_by-answer.ensures

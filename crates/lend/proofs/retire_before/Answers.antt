@@ -1,0 +1,7 @@
+-- `lend::retire_before` meets its contract. Assumes nothing.
+use Rattle.model.specs.Says.{let_go_says}
+use Rattle.lend.proofs.Lends.{lends}
+use Rattle.lend.proofs.retire_before.Goals as goal
+
+pub returns : goal.returns
+returns c = lends _ _ _ let_go_says _ _ _ _ _ _ c.unfilled-report.ensures c.of_let_go.ensures c.retire_before-answer.ensures
