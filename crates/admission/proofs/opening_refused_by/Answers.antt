@@ -1,4 +1,6 @@
 -- `admission::opening_refused_by` meets its contract. Assumes nothing.
+use mathlib.Core.Bool.{not}
+use Rattle.std.proofs.Common.{ap}
 use mathlib.Core.Path.{sym, ◌∙◌}
 use borrow.Author.Tests.{not-true, not-false}
 use Rattle.refusals.specs.Tests.{opening_1, opening_4, opening_5, opening_6, opening_0}
@@ -15,14 +17,14 @@ pub returns-then-not-clock_fits : goal.returns-then-not-clock_fits
 returns-then-not-clock_fits c =
     let a = c.args in
     let t = c.clock_fits in
-    opening_4 a.clock a.b a.keys.now a.words.now c.if-words-ne-WORDS.false (too_high t.result a.clock t.ensures c.if-not-clock_fits.true)
+    opening_4 a.clock a.b a.keys.now a.words.now c.if-words-ne-WORDS.false (too_high t.result a.clock t.ensures (ap not c.if-not-clock_fits.true))
 
 pub returns-then-not-settings_fit : goal.returns-then-not-settings_fit
 returns-then-not-settings_fit c =
     let a = c.args in
     let t = c.clock_fits in
     let s = c.settings_fit in
-    opening_5 a.clock a.b a.keys.now a.words.now c.if-words-ne-WORDS.false (low_enough t.result a.clock t.ensures c.if-not-clock_fits.false)
+    opening_5 a.clock a.b a.keys.now a.words.now c.if-words-ne-WORDS.false (low_enough t.result a.clock t.ensures (ap not c.if-not-clock_fits.false))
     (sym s.ensures ∙ c.if-not-settings_fit.true)
 
 pub returns-then-not-keys_fit : goal.returns-then-not-keys_fit
@@ -31,7 +33,7 @@ returns-then-not-keys_fit c =
     let t = c.clock_fits in
     let s = c.settings_fit in
     let k = c.keys_fit in
-    opening_6 a.clock a.b a.keys.now a.words.now c.if-words-ne-WORDS.false (low_enough t.result a.clock t.ensures c.if-not-clock_fits.false)
+    opening_6 a.clock a.b a.keys.now a.words.now c.if-words-ne-WORDS.false (low_enough t.result a.clock t.ensures (ap not c.if-not-clock_fits.false))
     (sym s.ensures ∙ c.if-not-settings_fit.false) (sym k.ensures ∙ c.if-not-keys_fit.true)
 
 pub returns : goal.returns
@@ -40,5 +42,5 @@ returns c =
     let t = c.clock_fits in
     let s = c.settings_fit in
     let k = c.keys_fit in
-    opening_0 a.clock a.b a.keys.now a.words.now c.if-words-ne-WORDS.false (low_enough t.result a.clock t.ensures c.if-not-clock_fits.false)
+    opening_0 a.clock a.b a.keys.now a.words.now c.if-words-ne-WORDS.false (low_enough t.result a.clock t.ensures (ap not c.if-not-clock_fits.false))
     (sym s.ensures ∙ c.if-not-settings_fit.false) (sym k.ensures ∙ c.if-not-keys_fit.false)

@@ -1,4 +1,6 @@
 -- `admission::refused_by` meets its contract. Assumes nothing.
+use mathlib.Core.Bool.{not}
+use Rattle.std.proofs.Common.{ap}
 use borrow.Author.Tests.{not-true, not-false}
 use mathlib.Core.Path.{refl}
 use Rattle.model.specs.Layout.{is_window}
@@ -16,7 +18,7 @@ returns-then-not-is_window c =
     let ws = a.words.now in
     let n = c.if-words-ne-WORDS.false in
     let w = c.is_window in
-    refused_2 _ _ 0 n (no_window ws n w.result w.ensures c.if-not-is_window.true)
+    refused_2 _ _ 0 n (no_window ws n w.result w.ensures (ap not c.if-not-is_window.true))
 
 pub returns-then-not-peers : goal.returns-then-not-peers
 returns-then-not-peers c =
@@ -24,7 +26,7 @@ returns-then-not-peers c =
     let ws = a.words.now in
     let n = c.if-words-ne-WORDS.false in
     let w = c.is_window in
-    let v = a_window ws n w.result w.ensures c.if-not-is_window.false in
+    let v = a_window ws n w.result w.ensures (ap not c.if-not-is_window.false) in
     refused_6 _ _ 0 n v (report_none 0) refl (c.if-not-peers.true)
 
 pub returns : goal.returns
@@ -33,5 +35,5 @@ returns c =
     let ws = a.words.now in
     let n = c.if-words-ne-WORDS.false in
     let w = c.is_window in
-    let v = a_window ws n w.result w.ensures c.if-not-is_window.false in
+    let v = a_window ws n w.result w.ensures (ap not c.if-not-is_window.false) in
     by_content _ _ 0 n v (report_none 0) refl (c.if-not-peers.false)

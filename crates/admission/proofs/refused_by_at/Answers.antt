@@ -1,4 +1,6 @@
 -- `admission::refused_by_at` meets its contract. Assumes nothing.
+use mathlib.Core.Bool.{not}
+use Rattle.std.proofs.Common.{ap}
 use borrow.Author.Tests.{not-true, not-false}
 use Rattle.model.specs.Layout.{window_of}
 use Rattle.refusals.specs.Tests.{refused_1, refused_2, refused_4, refused_6, by_content, report_none}
@@ -15,7 +17,7 @@ returns-then-not-is_window c =
     let ws = a.words.now in
     let n = c.if-words-ne-WORDS.false in
     let w = c.is_window in
-    refused_2 _ _ 0 n (no_window ws n w.result w.ensures c.if-not-is_window.true)
+    refused_2 _ _ 0 n (no_window ws n w.result w.ensures (ap not c.if-not-is_window.true))
 
 pub get_clock-last-requires : goal.get_clock-last-requires
 get_clock-last-requires c = c.if-words-ne-WORDS.false
@@ -26,7 +28,7 @@ returns-then-not-clock_fits c =
     let ws = a.words.now in
     let n = c.if-words-ne-WORDS.false in
     let w = c.is_window in
-    let v = a_window ws n w.result w.ensures c.if-not-is_window.false in
+    let v = a_window ws n w.result w.ensures (ap not c.if-not-is_window.false) in
     let l = c.get_clock-last in
     let k = c.clock_fits in
     refused_4 _ _ 0 n v (report_none 0) (not_now k.result l.result (window_of ws).clock a.clock k.ensures l.ensures c.if-not-clock_fits.true)
@@ -37,7 +39,7 @@ returns-then-not-peers c =
     let ws = a.words.now in
     let n = c.if-words-ne-WORDS.false in
     let w = c.is_window in
-    let v = a_window ws n w.result w.ensures c.if-not-is_window.false in
+    let v = a_window ws n w.result w.ensures (ap not c.if-not-is_window.false) in
     let l = c.get_clock-last in
     let k = c.clock_fits in
     refused_6 _ _ 0 n v (report_none 0) (in_time k.result l.result (window_of ws).clock a.clock k.ensures l.ensures c.if-not-clock_fits.false) (c.if-not-peers.true)
@@ -48,7 +50,7 @@ returns c =
     let ws = a.words.now in
     let n = c.if-words-ne-WORDS.false in
     let w = c.is_window in
-    let v = a_window ws n w.result w.ensures c.if-not-is_window.false in
+    let v = a_window ws n w.result w.ensures (ap not c.if-not-is_window.false) in
     let l = c.get_clock-last in
     let k = c.clock_fits in
     by_content _ _ 0 n v (report_none 0) (in_time k.result l.result (window_of ws).clock a.clock k.ensures l.ensures c.if-not-clock_fits.false) (c.if-not-peers.false)

@@ -1,4 +1,6 @@
 -- `admission::report_refused_by` meets its contract. Assumes nothing.
+use mathlib.Core.Bool.{not}
+use Rattle.std.proofs.Common.{ap}
 use mathlib.Core.Path.{sym, ◌∙◌}
 use mathlib.Core.Bool.{true}
 use borrow.Author.Tests.{not-true, not-false}
@@ -29,7 +31,7 @@ returns-then-not-clock_fits c =
     let g = at_clock true ws a.room (sym c.if-k-ne0.false ∙ c.timeless_report_refused_by-k.ensures) in
     let l = c.get_clock-accepted in
     let k = c.clock_fits in
-    refused_4 x ws a.room g.0 g.1 g.2 (not_now k.result l.result (window_of ws).clock a.clock k.ensures l.ensures c.if-not-clock_fits.true)
+    refused_4 x ws a.room g.0 g.1 g.2 (not_now k.result l.result (window_of ws).clock a.clock k.ensures l.ensures (ap not c.if-not-clock_fits.true))
 
 pub returns-then-not-peers : goal.returns-then-not-peers
 returns-then-not-peers c =
@@ -39,7 +41,7 @@ returns-then-not-peers c =
     let g = at_clock true ws a.room (sym c.if-k-ne0.false ∙ c.timeless_report_refused_by-k.ensures) in
     let l = c.get_clock-accepted in
     let k = c.clock_fits in
-    refused_6 x ws a.room g.0 g.1 g.2 (in_time k.result l.result (window_of ws).clock a.clock k.ensures l.ensures c.if-not-clock_fits.false) (c.if-not-peers.true)
+    refused_6 x ws a.room g.0 g.1 g.2 (in_time k.result l.result (window_of ws).clock a.clock k.ensures l.ensures (ap not c.if-not-clock_fits.false)) (c.if-not-peers.true)
 
 pub returns : goal.returns
 returns c =
@@ -49,4 +51,4 @@ returns c =
     let g = at_clock true ws a.room (sym c.if-k-ne0.false ∙ c.timeless_report_refused_by-k.ensures) in
     let l = c.get_clock-accepted in
     let k = c.clock_fits in
-    by_content x ws a.room g.0 g.1 g.2 (in_time k.result l.result (window_of ws).clock a.clock k.ensures l.ensures c.if-not-clock_fits.false) (c.if-not-peers.false)
+    by_content x ws a.room g.0 g.1 g.2 (in_time k.result l.result (window_of ws).clock a.clock k.ensures l.ensures (ap not c.if-not-clock_fits.false)) (c.if-not-peers.false)

@@ -1,4 +1,6 @@
 -- `admission::timeless_report_refused_by` meets its contract. Assumes nothing.
+use mathlib.Core.Bool.{not}
+use Rattle.std.proofs.Common.{ap}
 use mathlib.Core.Path.{refl}
 use mathlib.Core.Bool.{true}
 use borrow.Author.Tests.{not-true, not-false}
@@ -20,7 +22,7 @@ returns-then-not-is_window c =
     let k : Checks = checking true timeless a.peers nothing in
     let n = c.if-words-ne-WORDS.false in
     let w = c.is_window in
-    refused_2 k ws a.room n (no_window ws n w.result w.ensures c.if-not-is_window.true)
+    refused_2 k ws a.room n (no_window ws n w.result w.ensures (ap not c.if-not-is_window.true))
 
 pub returns-then-room-lt-PLACES : goal.returns-then-room-lt-PLACES
 returns-then-room-lt-PLACES c =
@@ -29,7 +31,7 @@ returns-then-room-lt-PLACES c =
     let k : Checks = checking true timeless a.peers nothing in
     let n = c.if-words-ne-WORDS.false in
     let w = c.is_window in
-    let v = a_window ws n w.result w.ensures c.if-not-is_window.false in
+    let v = a_window ws n w.result w.ensures (ap not c.if-not-is_window.false) in
     refused_3 k ws a.room n v (report_short a.room c.if-room-lt-PLACES.true)
 
 pub returns-then-not-peers : goal.returns-then-not-peers
@@ -39,7 +41,7 @@ returns-then-not-peers c =
     let k : Checks = checking true timeless a.peers nothing in
     let n = c.if-words-ne-WORDS.false in
     let w = c.is_window in
-    let v = a_window ws n w.result w.ensures c.if-not-is_window.false in
+    let v = a_window ws n w.result w.ensures (ap not c.if-not-is_window.false) in
     let r = report_long a.room c.if-room-lt-PLACES.false in
     refused_6 k ws a.room n v r refl (c.if-not-peers.true)
 
@@ -50,6 +52,6 @@ returns c =
     let k : Checks = checking true timeless a.peers nothing in
     let n = c.if-words-ne-WORDS.false in
     let w = c.is_window in
-    let v = a_window ws n w.result w.ensures c.if-not-is_window.false in
+    let v = a_window ws n w.result w.ensures (ap not c.if-not-is_window.false) in
     let r = report_long a.room c.if-room-lt-PLACES.false in
     by_content k ws a.room n v r refl (c.if-not-peers.false)

@@ -104,13 +104,12 @@ seats-requires c =
     let at-loop = c.loop-i in
     let at-start = c in
     let w = at-start.args.w.now in
-    let e : at-loop.i ≡ count w = omega arith in (
-      (at-start.requires.0, at-start.requires.2),
-      (
-        (λ s. at-loop.invariant.5 s ∙ ap (oldest_of w s) e),
-        (λ s. omega (arith, at-loop.invariant.5 s, oldest_le w s at-loop.i at-loop.invariant.2, at-start.requires.2)),
-      ),
-    )
+    let e : at-loop.i ≡ count w = omega arith in
+    record {
+      w_len = (at-start.requires.0, at-start.requires.2);
+      by_index = λ s. at-loop.invariant.5 s ∙ ap (oldest_of w s) e;
+      by_index_2 = λ s. omega (arith, at-loop.invariant.5 s, oldest_le w s at-loop.i at-loop.invariant.2, at-start.requires.2);
+    }
 
 pub returns : goal.returns
 unfolding records_fit total_fits

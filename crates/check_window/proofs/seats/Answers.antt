@@ -9,7 +9,7 @@ pub loop-s-init : goal.loop-s-init
 loop-s-init c = (refl, c.raced-most.ensures.0, c.raced-most.ensures.1, omega arith, sym (all_none _))
 
 pub seat_top-t-requires : goal.seat_top-t-requires
-seat_top-t-requires c = (omega arith, c.raced-most.ensures.1, c.requires.1.1 c.loop-s.s)
+seat_top-t-requires c = (omega arith, c.raced-most.ensures.1, c.requires.by_index_2 c.loop-s.s)
 
 pub loop-s-preserved : goal.loop-s-preserved
 unfolding seat_fits
@@ -20,7 +20,7 @@ loop-s-preserved c =
     let w = at-start.args.w.now in
     let s = at-loop.loop-s.s in
     let turn : ltb c.seat_top-t.result (2 ^ 63) ≡ seat_fits w s = c.seat_top-t.ensures
-    ∙ (λ i. seat_by (latest w) (most.0 i) (at-start.requires.1.0 s i) (start w s) (body w s) (seat_key w s) (cooling w s) (racer w s)) in (
+    ∙ (λ i. seat_by (latest w) (most.0 i) (at-start.requires.by_index s i) (start w s) (body w s) (seat_key w s) (cooling w s) (racer w s)) in (
       refl,
       most.0,
       most.1,

@@ -11,4 +11,4 @@ returns c =
     let y = c.wrapping_sub_u64-y in
     let z = c.wrapping_sub_u64-z in
     start_law at.args.latest at.args.g at.args.a o.result x.result y.result z.result at.requires.0 at.requires.1
-    (omega arith) (omega arith) (omega arith) o.ensures x.ensures y.ensures z.ensures
+    (omega arith) (omega arith) (omega arith) o.ensures x.ensures.value y.ensures.value z.ensures.value

@@ -22,7 +22,7 @@ returns-in-Missing c =
     let s = c in
     let a = s.args in
     let t = ap (λ (s : Source). credit_by s a.h a.height a.clock (window_of a.words.now)) (sym c.in-Missing.is) in
-    (omega arith, subst (λ (s : Step). Holds s.window a.words.now) t (holds_whole a.words.now s.requires.0), ap (λ (s : Step). s.gone-1) t)
+    (omega arith, subst (λ (s : Step). Holds s.window a.words.now) t (holds_whole a.words.now s.requires.0), ap (λ (s : Step). s.gone) t)
 
 pub returns-in-From : goal.returns-in-From
 returns-in-From c =

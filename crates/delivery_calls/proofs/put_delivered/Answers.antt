@@ -25,7 +25,7 @@ overflow_add-result c = omega (arith, c.requires.1)
 pub returns : goal.returns
 returns c =
     let s = c in
-    let by_front = c.front-1 in
+    let by_front = c.in-At.is in
     let by-nine = c.nine-first in
-    let room : _ = subst (λ (f : Front). length (delivered f) + s.args.n ≤ 256) by_front.given.1 s.requires.1 in
-    delivered_before s.args.front _ s.args.n by-nine.result s.args.gone.now _ by_front.given.1 by-nine.ensures (c.put_first.ensures s.args.n (omega (arith, room)))
+    let room : _ = subst (λ (f : Front). length (delivered f) + s.args.n ≤ 256) by_front s.requires.1 in
+    delivered_before s.args.front _ s.args.n by-nine.result s.args.gone.now _ by_front by-nine.ensures (c.put_first.ensures s.args.n (omega (arith, room)))

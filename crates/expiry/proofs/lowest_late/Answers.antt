@@ -19,7 +19,7 @@ use Rattle.records.specs.Places.{front_at}
 use Rattle.expiry.specs.Late.{late}
 use Rattle.time.proofs.expiry_limit.Reads as expiry-limit-reads
 use Rattle.expiry.proofs.is_late.Reads as is-late-reads
-use Rattle.expiry.proofs.lowest_late.Invariants.{from, Lowest}
+use Rattle.expiry.proofs.lowest_late.Invariants.{from, Lowest, none, some}
 use Rattle.expiry.proofs.lowest_late.Goals as goal
 
 module _ (p : Entry → Bool) (ws : List ℕ) (m i j : ℕ) (e : i ≡ suc j) (k : m ≤ 256) (h : i ≤ m) where

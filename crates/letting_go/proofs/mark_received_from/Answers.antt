@@ -18,7 +18,7 @@ abbrev is : Start → Change
 is s = receives s.args.clock s.args.h s.args.bytes s.args.source
 
 -- its refusal, with the test of its source as the definition has it
-refused : (c : After-body_refused_by-k) → c.body_refused_by-k.result ≡ window_refusal (checks (is c)) c.args.words.now c.args.room
+refused : (c : After-body_refused_by-k) → c.body_refused_by-k.result ≡ window_refusal (checks (receives c.args.clock c.args.h c.args.bytes c.args.source)) c.args.words.now c.args.room
 refused c =
     let a = c.args in
     subst (λ (p : Bool). c.body_refused_by-k.result ≡ window_refusal (checking true (at a.clock) p (body_refusal a.bytes)) a.words.now a.room)

@@ -16,7 +16,7 @@ abbrev is : Start → Change
 is s = rejects s.args.clock s.args.h s.args.source
 
 -- its refusal, with the test of its source as the definition has it
-refused : (c : After-report_refused_by-k) → c.report_refused_by-k.result ≡ window_refusal (checks (is c)) c.args.words.now c.args.room
+refused : (c : After-report_refused_by-k) → c.report_refused_by-k.result ≡ window_refusal (checks (rejects c.args.clock c.args.h c.args.source)) c.args.words.now c.args.room
 refused c =
     let a = c.args in
     subst (λ (p : Bool). c.report_refused_by-k.result ≡ window_refusal (checking true (at a.clock) p nothing) a.words.now a.room)

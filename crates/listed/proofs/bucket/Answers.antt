@@ -7,6 +7,6 @@ use Rattle.listed.proofs.bucket.Goals as goal
 pub returns : goal.returns
 unfolding bucket
 returns c =
-    let x = c.wrapping_add_u64-x.ensures in
-    let y = c.wrapping_add_u64-y.ensures in
-    ap (λ (n : ℕ). n % 1021) (c.wrapping_add_u64-sum.ensures ∙ (λ i. (x i + y i) % base))
+    let x = c.wrapping_add_u64-x.ensures.value in
+    let y = c.wrapping_add_u64-y.ensures.value in
+    ap (λ (n : ℕ). n % 1021) (c.wrapping_add_u64-sum.ensures.value ∙ (λ i. (x i + y i) % base))

@@ -16,7 +16,7 @@ module _ (s : Start) where
   wanted = hash s.args.a s.args.b s.args.c s.args.d
 
   asked : Words wanted
-  asked = record { a = s.fits.a.fits; b = s.fits.b.fits; c = s.fits.c.fits; d = s.fits.d.fits }
+  asked = record { a = s.ranges.a.fits; b = s.ranges.b.fits; c = s.ranges.c.fits; d = s.ranges.d.fits }
 
   -- how many places have a link
   abbrev linking : ℕ
@@ -41,7 +41,7 @@ overflow_cast-j c = omega (arith, c.shared_slice_known-3-1.given c.bucket-head.r
 
 pub loop-j-init : goal.loop-j-init
 loop-j-init c =
-    let s = c in
+    let s = (goal.at.loop-j-init c).Start in
     chain_start (wanted s) (asked s) _ (λ i. (c.shared_slice_known-2-1.given i).fits) _ _ s.requires.0 _
     (ap (λ (b : ℕ). get_or s.args.index.now b 0) c.bucket-head.ensures)
 
@@ -50,29 +50,29 @@ overflow_sub-i c = omega arith
 
 pub is_at-requires : goal.is_at-requires
 is_at-requires c =
-    let s = c in
+    let s = (goal.at.is_at-requires c).Start in
     omega (arith, (few s).0, c.loop-j.invariant.0, s.requires.1)
 
 pub returns-then-is_at : goal.returns-then-is_at
 returns-then-is_at c =
-    let s = c in
+    let s = (goal.at.returns-then-is_at c).Start in
     let at = c.loop-j in
     sym (named_at (wanted s) s.args.list.now (linking s) (omega (arith, (few s).0, s.requires.1)) (at.j - 1) (omega (arith, at.invariant.0))
     (sym c.is_at.ensures ∙ c.if-is_at.true))
 
 pub overflow_add-j : goal.overflow_add-j
 overflow_add-j c =
-    let s = c in
+    let s = (goal.at.overflow_add-j c).Start in
     omega (arith, (few s).1, c.loop-j.invariant.0)
 
 pub offset_bounds-index-i : goal.offset_bounds-index-i
 offset_bounds-index-i c =
-    let s = c in
-    omega (arith, (few s).1, c.loop-j.invariant.0, s.well-formed)
+    let s = (goal.at.offset_bounds-index-i c).Start in
+    omega (arith, (few s).1, c.loop-j.invariant.0, s.well_formed)
 
 pub bounds-index-i : goal.bounds-index-i
 bounds-index-i c =
-    let s = c in
+    let s = (goal.at.bounds-index-i c).Start in
     omega (arith, (few s).1, c.loop-j.invariant.0)
 
 pub overflow_cast-j-in-loop-j : goal.overflow_cast-j-in-loop-j
@@ -80,19 +80,19 @@ overflow_cast-j-in-loop-j c = omega (arith, c.shared_slice_known-in-loop-j-1.giv
 
 pub loop-j-smaller : goal.loop-j-smaller
 loop-j-smaller c =
-    let s = c in
+    let s = (goal.at.loop-j-smaller c).Start in
     let at = c.loop-j in
     next_less s.args.n s.args.list.now s.args.index.now s.requires.0 at.j (at.j - 1) at.invariant.0 (omega arith) (omega arith)
 
 pub loop-j-preserved : goal.loop-j-preserved
 loop-j-preserved c =
-    let s = c in
+    let s = (goal.at.loop-j-preserved c).Start in
     let at = c.loop-j in
     chain_next (wanted s) (asked s) _ (λ i. (c.shared_slice_known-2-1.given i).fits)
     _ _ s.requires.0 at.j (at.j - 1) at.invariant (omega arith) refl (sym c.is_at.ensures ∙ c.if-is_at.false) _ refl
 
 pub returns : goal.returns
 returns c =
-    let s = c in
+    let s = (goal.at.returns c).Start in
     let at = c.loop-j in
     sym (named_none (wanted s) s.args.list.now (linking s) (omega (arith, (few s).0, s.requires.1)) (λ k h. at.invariant.1.1 k (omega arith) h))

@@ -28,12 +28,11 @@ abbrev is : Start → Change
 is s = let a = s.args in plans_retry a.clock a.source (lent_at s) (length a.hashes.now) (length a.heights.now)
 
 -- its refusal, with the test of its lists as the definition has it
-refused : (c : After-refused_by-k) → let s = c in c.refused_by-k.result ≡ window_refusal (checks (is s)) s.args.words.now s.args.room
+refused : (c : After-refused_by-k) → c.refused_by-k.result ≡ window_refusal (checks (plans_retry c.args.clock c.args.source (lent c.args.chain.now c.args.tip c.args.start c.args.best c.args.floor c.args.staged.now c.args.refused.now c.args.exhausted c.args.byte_headroom c.args.count_headroom) (length c.args.hashes.now) (length c.args.heights.now))) c.args.words.now c.args.room
 refused c =
-    let s = c in
-    let a = s.args in
+    let a = c.args in
     subst (λ (f : Window → ℕ). c.refused_by-k.result ≡ window_refusal (checking true (at a.clock) (seat_ok a.source) f) a.words.now a.room)
-    (lists_are (lent_at s) (length a.hashes.now) (length a.heights.now)) c.refused_by-k.ensures
+    (lists_are (lent c.args.chain.now c.args.tip c.args.start c.args.best c.args.floor c.args.staged.now c.args.refused.now c.args.exhausted c.args.byte_headroom c.args.count_headroom) (length a.hashes.now) (length a.heights.now)) c.refused_by-k.ensures
 
 pub returns-then-k-ne0 : goal.returns-then-k-ne0
 returns-then-k-ne0 c = plans_refused _ (is (goal.at.returns-then-k-ne0 c).Start) _ _ _ (refused (goal.at.returns-then-k-ne0 c).After-refused_by-k) _ _ _ c.if-k-ne0.true

@@ -1,4 +1,6 @@
 -- `plan_look::look_at` meets its contract. Assumes nothing.
+use mathlib.Core.Bool.{not}
+use Rattle.std.proofs.Common.{ap}
 use mathlib.Core.Bool.{◌||◌}
 use lib.ListN.{take}
 use Rattle.model.specs.Lists.{any}
@@ -18,7 +20,7 @@ returns-then-not-is_open c =
     let x = is_there (found a.h (window_of a.words.now).queue.pending) || names a.staged.now a.h in
     let z = any (same a.h) (take a.n (hashes_in a.hashes.now)) in
     let q = names a.refused.now a.h in
-    look_closed x z q _ c.is_open.ensures c.if-not-is_open.true
+    look_closed x z q _ c.is_open.ensures (ap not c.if-not-is_open.true)
 
 pub names_first-requires : goal.names_first-requires
 names_first-requires c = c.requires.1
@@ -29,7 +31,7 @@ returns-then-names_first c =
     let x = is_there (found a.h (window_of a.words.now).queue.pending) || names a.staged.now a.h in
     let z = any (same a.h) (take a.n (hashes_in a.hashes.now)) in
     let q = names a.refused.now a.h in
-    look_listed x z q _ c.is_open.ensures c.if-not-is_open.false _ c.names_first.ensures c.if-names_first.true
+    look_listed x z q _ c.is_open.ensures (ap not c.if-not-is_open.false) _ c.names_first.ensures c.if-names_first.true
 
 pub names-requires : goal.names-requires
 names-requires c = c.requires.0.refuses
@@ -40,7 +42,7 @@ returns-then-names c =
     let x = is_there (found a.h (window_of a.words.now).queue.pending) || names a.staged.now a.h in
     let z = any (same a.h) (take a.n (hashes_in a.hashes.now)) in
     let q = names a.refused.now a.h in
-    look_refused x z q _ c.is_open.ensures c.if-not-is_open.false _ c.names_first.ensures c.if-names_first.false _ c.names.ensures c.if-names.true
+    look_refused x z q _ c.is_open.ensures (ap not c.if-not-is_open.false) _ c.names_first.ensures c.if-names_first.false _ c.names.ensures c.if-names.true
 
 pub returns : goal.returns
 returns c =
@@ -48,4 +50,4 @@ returns c =
     let x = is_there (found a.h (window_of a.words.now).queue.pending) || names a.staged.now a.h in
     let z = any (same a.h) (take a.n (hashes_in a.hashes.now)) in
     let q = names a.refused.now a.h in
-    look_taken x z q _ c.is_open.ensures c.if-not-is_open.false _ c.names_first.ensures c.if-names_first.false _ c.names.ensures c.if-names.false
+    look_taken x z q _ c.is_open.ensures (ap not c.if-not-is_open.false) _ c.names_first.ensures c.if-names_first.false _ c.names.ensures c.if-names.false

@@ -1,4 +1,6 @@
 -- `plan_scan::request_from` meets its contract. Assumes nothing.
+use mathlib.Core.Bool.{not}
+use Rattle.std.proofs.Common.{ap}
 use mathlib.Core.Path.{sym, ◌∙◌}
 use borrow.Author.Tests.{not-true}
 use Rattle.model.specs.Layout.{window_of}
@@ -17,7 +19,7 @@ pub request_by_scan-requires : goal.request_by_scan-requires
 request_by_scan-requires c =
     let s = c in
     let a = s.args in
-    (s.requires.0, (s.requires.1, scans_both a.scan.height a.scan.tip a.scan.limit _ c.scans.ensures c.if-not-scans.false))
+    (s.requires.0, (s.requires.1, scans_both a.scan.height a.scan.tip a.scan.limit _ c.scans.ensures (ap not c.if-not-scans.false)))
 
 pub returns : goal.returns
 returns c = c.request_by_scan.ensures

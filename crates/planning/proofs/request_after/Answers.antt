@@ -33,9 +33,8 @@ returns-in-Nothing c =
 pub returns-in-Upto : goal.returns-in-Upto
 returns-in-Upto c =
     let y = c.request_by in
-    let b = c.b-1.given in
     let at = c in
     let a = at.args in
     after_some a.source a.n a.words.now a.gone.now a.chain.now a.tip a.start a.best a.floor a.staged.now a.refused.now a.byte_headroom a.count_headroom
     y.result y.new.words a.hashes.now y.new.hashes a.heights.now y.new.heights _ _
-    (sym (ap batch_says b.1) ∙ at.compute_request_capacity-b.ensures) y.ensures
+    (sym (ap batch_says c.in-Upto.is) ∙ at.compute_request_capacity-b.ensures) y.ensures

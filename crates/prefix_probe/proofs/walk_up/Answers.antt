@@ -91,10 +91,11 @@ walk-smaller c = omega (arith, c.walk-test.true)
 
 pub walk-preserved : goal.walk-preserved
 walk-preserved c =
+    let e = (goal.at.walk-preserved c).After-loop-i in
     let s = c in
     let es = (window_of s.args.words.now).queue.pending in
     let w = c.walk in
-    rw (add-one, c.next_height-expected.ensures) (walk_step s.args.limit s.args.first es w.n w.places w.marks w.expected w.invariant c.loop-i.at (omega (arith, c.pending_count-count.ensures.0, c.pending_count-count.ensures.1)) s.requires.1.0 (room c) (done c).0 (done c).1.0 (below c))
+    rw (add-one, c.next_height-expected.ensures) (walk_step s.args.limit s.args.first es w.n w.places w.marks w.expected w.invariant c.loop-i.at (omega (arith, c.pending_count-count.ensures.0, c.pending_count-count.ensures.1)) s.requires.1.0 (room e) (done e).0 (done e).1.0 (below e))
 
 pub returns-after-walk : goal.returns-after-walk
 returns-after-walk c =

@@ -14,7 +14,7 @@ pub loop-i-init : goal.loop-i-init
 loop-i-init c = (omega arith, (c.requires.0, (refl, refl)))
 
 pub offset_bounds-alternates-i : goal.offset_bounds-alternates-i
-offset_bounds-alternates-i c = omega (arith, c.loop-i-test.true, c.well-formed)
+offset_bounds-alternates-i c = omega (arith, c.loop-i-test.true, c.well_formed)
 
 pub bounds-alternates-i : goal.bounds-alternates-i
 bounds-alternates-i c = omega (arith, c.loop-i-test.true)
@@ -23,7 +23,7 @@ pub set_racer-requires : goal.set_racer-requires
 set_racer-requires c = (c.loop-i.invariant.1.0, omega (arith, seat_at c.args.alternates.now c.loop-i.i c.requires.1 c.loop-i-test.true))
 
 pub overflow_add-i : goal.overflow_add-i
-overflow_add-i c = omega (arith, c.loop-i-test.true, c.well-formed)
+overflow_add-i c = omega (arith, c.loop-i-test.true, c.well_formed)
 
 pub loop-i-smaller : goal.loop-i-smaller
 loop-i-smaller c = omega (arith, c.loop-i-test.true)

@@ -23,10 +23,10 @@ within c =
     omega (arith, c.loop-i-test.true, how_few s.args.p (window_of s.args.words.now) s.requires.1 c.how_many-n.result c.how_many-n.ensures, s.requires.1.few)
 
 pub offset_bounds-places-i : goal.offset_bounds-places-i
-offset_bounds-places-i c = omega (arith, within (goal.at.offset_bounds-places-i c).In-loop-i)
+offset_bounds-places-i c = omega (arith, c.loop-i-test.true, how_few c.args.p (window_of c.args.words.now) c.requires.1 c.how_many-n.result c.how_many-n.ensures, c.requires.1.few)
 
 pub bounds-places-i : goal.bounds-places-i
-bounds-places-i c = within (goal.at.bounds-places-i c).In-loop-i
+bounds-places-i c = omega (arith, c.loop-i-test.true, how_few c.args.p (window_of c.args.words.now) c.requires.1 c.how_many-n.result c.how_many-n.ensures, c.requires.1.few)
 
 pub row_at-row-requires : goal.row_at-row-requires
 row_at-row-requires c =

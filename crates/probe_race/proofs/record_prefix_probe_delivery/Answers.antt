@@ -15,7 +15,7 @@ returns-in_default c =
     let s = c in
     let a = s.args in
     let t = delivery_none a.h a.source a.clock (window_of a.words.now) c.get_probe-p.result c.get_probe-p.ensures c.in_default.is in
-    (omega arith, subst (λ (s : Step). Holds s.window a.words.now) t (holds_whole a.words.now s.requires.0), ap (λ (s : Step). s.gone-1) t)
+    (omega arith, subst (λ (s : Step). Holds s.window a.words.now) t (holds_whole a.words.now s.requires.0), ap (λ (s : Step). s.gone) t)
 
 pub returns-then-n-i : goal.returns-then-n-i
 unfolding releases_of
@@ -25,7 +25,7 @@ returns-then-n-i c =
     let by-place-of = c.place_of-i in
     let a = s.args in
     let t = delivery_other a.h a.source a.clock (window_of a.words.now) by-get-probe.result by-get-probe.ensures _ _ _ by-place-of.result c.in-Probing.is by-place-of.ensures (omega (arith, c.if-n-i.true, c.planned_count-n.ensures)) in
-    (omega arith, subst (λ (s : Step). Holds s.window a.words.now) t (holds_whole a.words.now s.requires.0), ap (λ (s : Step). s.gone-1) t)
+    (omega arith, subst (λ (s : Step). Holds s.window a.words.now) t (holds_whole a.words.now s.requires.0), ap (λ (s : Step). s.gone) t)
 
 pub race_progress-requires : goal.race_progress-requires
 race_progress-requires c =

@@ -12,7 +12,7 @@ use Rattle.laws.specs.Rows.{rows_at, live_cons, live_end, word_at}
 use Rattle.model.specs.declared.Front.{Front}
 use Rattle.model.specs.declared.Front.TheVariants.{At, Nothing}
 use Rattle.records.specs.Places.{front_at}
-use Rattle.records.proofs.lowest_place.Invariants.{Lowest}
+use Rattle.records.proofs.lowest_place.Invariants.{Lowest, none, some}
 use Rattle.records.proofs.lowest_place.Goals as goal
 
 -- what is lowest from j on, by what is lowest after it

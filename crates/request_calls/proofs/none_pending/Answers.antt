@@ -21,7 +21,7 @@ turn : (c : In-loop-i) → AskAt c.args.hashes.now c.args.heights.now c.loop-i.i
 turn c = ask_there _ _ _ _ c.asked-n.ensures c.loop-i-test.true
 
 pub overflow_mul-i : goal.overflow_mul-i
-overflow_mul-i c = omega (arith, (turn (goal.at.overflow_mul-i c).In-loop-i).1, c.well-formed)
+overflow_mul-i c = omega (arith, (turn (goal.at.overflow_mul-i c).In-loop-i).1, c.well_formed)
 
 pub hash_in-h-requires : goal.hash_in-h-requires
 hash_in-h-requires c = (turn (goal.at.hash_in-h-requires c).In-loop-i).1

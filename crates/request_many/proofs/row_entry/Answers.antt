@@ -24,13 +24,13 @@ returns-then-row-m c =
     (sized_decode a.words.now s.requires.0).entries s.requires.1.0 (omega (arith, c.if-row-m.true))
 
 pub overflow_mul-k : goal.overflow_mul-k
-overflow_mul-k c = let s = c in omega (arith, s.requires.1.1, asks_within s.args.hashes.now s.args.heights.now, c.if-row-m.false, s.well-formed)
+overflow_mul-k c = let s = c in omega (arith, s.requires.1.1, asks_within s.args.hashes.now s.args.heights.now, c.if-row-m.false, s.well_formed)
 
 pub hash_in-hash-requires : goal.hash_in-hash-requires
 hash_in-hash-requires c = let s = c in omega (arith, s.requires.1.1, asks_within s.args.hashes.now s.args.heights.now, c.if-row-m.false)
 
 pub offset_bounds-heights-k : goal.offset_bounds-heights-k
-offset_bounds-heights-k c = let s = c in omega (arith, s.requires.1.1, asks_within s.args.hashes.now s.args.heights.now, c.if-row-m.false, s.well-formed)
+offset_bounds-heights-k c = let s = c in omega (arith, s.requires.1.1, asks_within s.args.hashes.now s.args.heights.now, c.if-row-m.false, s.well_formed)
 
 pub bounds-heights-k : goal.bounds-heights-k
 bounds-heights-k c = let s = c in omega (arith, s.requires.1.1, asks_within s.args.hashes.now s.args.heights.now, c.if-row-m.false)

@@ -16,13 +16,13 @@ pub loop-i-init : goal.loop-i-init
 loop-i-init c = let s = c in (omega arith, (s.requires.0, (putting_start (asks_in s.args.hashes.now s.args.heights.now) s.args.owner s.args.clock (window_of s.args.words.now) s.requires.1.1.0, refl)))
 
 pub overflow_mul-i : goal.overflow_mul-i
-overflow_mul-i c = let s = c in omega (arith, asks_within s.args.hashes.now s.args.heights.now, s.requires.1.1.1, c.loop-i-test.true, s.well-formed)
+overflow_mul-i c = let s = c in omega (arith, asks_within s.args.hashes.now s.args.heights.now, s.requires.1.1.1, c.loop-i-test.true, s.well_formed)
 
 pub hash_in-h-requires : goal.hash_in-h-requires
 hash_in-h-requires c = let s = c in omega (arith, asks_within s.args.hashes.now s.args.heights.now, s.requires.1.1.1, c.loop-i-test.true)
 
 pub offset_bounds-heights-i : goal.offset_bounds-heights-i
-offset_bounds-heights-i c = let s = c in omega (arith, asks_within s.args.hashes.now s.args.heights.now, s.requires.1.1.1, c.loop-i-test.true, s.well-formed)
+offset_bounds-heights-i c = let s = c in omega (arith, asks_within s.args.hashes.now s.args.heights.now, s.requires.1.1.1, c.loop-i-test.true, s.well_formed)
 
 pub bounds-heights-i : goal.bounds-heights-i
 bounds-heights-i c = let s = c in omega (arith, asks_within s.args.hashes.now s.args.heights.now, s.requires.1.1.1, c.loop-i-test.true)

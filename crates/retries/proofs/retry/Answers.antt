@@ -13,35 +13,32 @@ use Rattle.model.specs.declared.Hash.{Hash}
 use Rattle.report_words.specs.Report.{releases_of}
 use Rattle.swept_order.specs.Keys.{entry_from, asks_for, swept_low}
 use Rattle.retries.specs.Retries.{lent_for, retries, room_left, Going, going_start, going_end, going_stop, going_refused, going_passed, going_taken, asks_count, next_ask, next_is, next_low}
-use Rattle.retries.proofs.retry.Goals.{At-loop-i, Start}
+use Rattle.retries.proofs.retry.Goals.{At-loop-i}
 use Rattle.retries.proofs.retry.Goals as goal
 
 -- ---- what is known at the loop's head
 
-abbrev start : At-loop-i → Start
-start c = c
-
 abbrev asks : At-loop-i → List Ask
-asks c = swept_asks (releases_of (start c).args.n (start c).args.gone.now)
+asks c = swept_asks (releases_of c.args.n c.args.gone.now)
 
-room : (c : At-loop-i) → (start c).args.n ≤ length (start c).args.keys.now
-room c = omega (arith, (start c).requires.0.few, (start c).requires.1.0)
+room : (c : At-loop-i) → c.args.n ≤ length c.args.keys.now
+room c = omega (arith, c.requires.0.few, c.requires.1.0)
 
 -- the next of the swept
 abbrev next_entry : (c : At-loop-i) → Ask
-next_entry c = asks_for (entry_from (start c).args.gone.now (get_or (start c).args.keys.now c.loop-i.i 0 % 256))
+next_entry c = asks_for (entry_from c.args.gone.now (get_or c.args.keys.now c.loop-i.i 0 % 256))
 
-module _ (c : At-loop-i) (below : c.loop-i.i < (start c).args.n) where
+module _ (c : At-loop-i) (below : c.loop-i.i < c.args.n) where
   next : drop c.loop-i.i (asks c) ≡ next_entry c ∷ drop (suc c.loop-i.i) (asks c)
-  next = next_ask (start c).args.gone.now (start c).args.keys.now (start c).args.n (room c) (asks c) (start c).requires.1.1.0 c.loop-i.i below
+  next = next_ask c.args.gone.now c.args.keys.now c.args.n (room c) (asks c) c.requires.1.1.0 c.loop-i.i below
 
   module _ (h : Hash) (height : ℕ) (eh : h ≡ (next_entry c).hash) (et : height ≡ (next_entry c).height) where
     is : drop c.loop-i.i (asks c) ≡ ask h height ∷ drop (suc c.loop-i.i) (asks c)
-    is = next_is (start c).args.gone.now (start c).args.keys.now (start c).args.n (room c) (asks c) (start c).requires.1.1.0 c.loop-i.i h height below eh et
+    is = next_is c.args.gone.now c.args.keys.now c.args.n (room c) (asks c) c.requires.1.1.0 c.loop-i.i h height below eh et
 
     low : height ≤ max_height
-    low = next_low (start c).args.gone.now (start c).args.keys.now (start c).args.n (room c) (asks c) (start c).requires.1.1.0 c.loop-i.i h height below eh et
-        (swept_low (releases_of (start c).args.n (start c).args.gone.now) (start c).requires.0.low)
+    low = next_low c.args.gone.now c.args.keys.now c.args.n (room c) (asks c) c.requires.1.1.0 c.loop-i.i h height below eh et
+        (swept_low (releases_of c.args.n c.args.gone.now) c.requires.0.low)
 
 -- ---- the needs
 pub loop-i-init : goal.loop-i-init
@@ -68,29 +65,29 @@ shape_of-index-then-is_full c = c.loop-i.invariant.1.long_index
 pub returns-then-is_full : goal.returns-then-is_full
 unfolding retries
 returns-then-is_full c =
-    let d = c in
-    let a = (start (goal.at.returns-then-is_full c).At-loop-i).args in
+    let d = (goal.at.returns-then-is_full c).At-loop-i in
+    let a = c.args in
     let l = d.loop-i in
     let below : l.i < a.n = c.loop-i-test.true in
     going_stop (lent_for a.staged.now a.refused.now a.floor) (window_of a.words.now) (asks (goal.at.returns-then-is_full c).At-loop-i) a.batch a.bytes a.hashes.now a.heights.now a.index.now
-    l.hashes l.heights l.index l.count l.left l.low l.i l.invariant.1 a.mean (start (goal.at.returns-then-is_full c).At-loop-i).requires.1.1.1 (next_entry (goal.at.returns-then-is_full c).At-loop-i) (next d below) (sym c.is_full.ensures ∙ c.if-is_full.true)
+    l.hashes l.heights l.index l.count l.left l.low l.i l.invariant.1 a.mean c.requires.1.1.1 (next_entry (goal.at.returns-then-is_full c).At-loop-i) (next d below) (sym c.is_full.ensures ∙ c.if-is_full.true)
 
 pub hash_at-h-requires : goal.hash_at-h-requires
 hash_at-h-requires c =
-    let d = c in
-    (omega (arith, c.loop-i-test.true, room (goal.at.hash_at-h-requires c).At-loop-i), (start (goal.at.hash_at-h-requires c).At-loop-i).requires.0.long)
+    let d = (goal.at.hash_at-h-requires c).At-loop-i in
+    (omega (arith, c.loop-i-test.true, room (goal.at.hash_at-h-requires c).At-loop-i), c.requires.0.long)
 
 pub height_at-height-requires : goal.height_at-height-requires
 height_at-height-requires c =
-    let d = c in
-    (omega (arith, c.loop-i-test.true, room (goal.at.height_at-height-requires c).At-loop-i), (start (goal.at.height_at-height-requires c).At-loop-i).requires.0.long)
+    let d = (goal.at.height_at-height-requires c).At-loop-i in
+    (omega (arith, c.loop-i-test.true, room (goal.at.height_at-height-requires c).At-loop-i), c.requires.0.long)
 
 pub names-requires : goal.names-requires
-names-requires c = (start (goal.at.names-requires c).At-loop-i).pre.0.refused_index
+names-requires c = c.requires.0.refused_index
 
 pub lower_of-low-requires : goal.lower_of-low-requires
 lower_of-low-requires c =
-    low c c.loop-i-test.true c.hash_at-h.result c.height_at-height.result c.hash_at-h.ensures c.height_at-height.ensures
+    low (goal.at.lower_of-low-requires c).At-loop-i c.loop-i-test.true c.hash_at-h.result c.height_at-height.result c.hash_at-h.ensures c.height_at-height.ensures
 
 pub overflow_add-i : goal.overflow_add-i
 overflow_add-i c = omega (arith, c.loop-i-test.true)
@@ -101,20 +98,20 @@ loop-i-smaller-then-names c = omega (arith, c.loop-i-test.true)
 pub loop-i-preserved-then-names : goal.loop-i-preserved-then-names
 unfolding is_refused
 loop-i-preserved-then-names c =
-    let d = c in
-    let a = (start (goal.at.loop-i-preserved-then-names c).At-loop-i).args in
+    let d = (goal.at.loop-i-preserved-then-names c).At-loop-i in
+    let a = c.args in
     let l = d.loop-i in
     let h = c.hash_at-h in
     let t = c.height_at-height in
     let below : l.i < a.n = c.loop-i-test.true in (
       omega arith,
       going_refused (lent_for a.staged.now a.refused.now a.floor) (window_of a.words.now) (asks (goal.at.loop-i-preserved-then-names c).At-loop-i) a.batch a.bytes a.hashes.now a.heights.now a.index.now
-          l.hashes l.heights l.index l.count l.left l.low l.i l.invariant.1 a.mean (start (goal.at.loop-i-preserved-then-names c).At-loop-i).requires.1.1.1 (ask h.result t.result) (is d below h.result t.result h.ensures t.ensures)
+          l.hashes l.heights l.index l.count l.left l.low l.i l.invariant.1 a.mean c.requires.1.1.1 (ask h.result t.result) (is d below h.result t.result h.ensures t.ensures)
           (sym c.is_full.ensures ∙ c.if-is_full.false) c.lower_of-low.result (sym c.names.ensures ∙ c.if-names.true) c.lower_of-low.ensures,
     )
 
 pub is_passed_by-requires : goal.is_passed_by-requires
-is_passed_by-requires c = let p = (start (goal.at.is_passed_by-requires c).At-loop-i).pre.0 in ((p.whole, p.rises), p.staged_index)
+is_passed_by-requires c = let p = c.requires.0 in ((p.whole, p.rises), p.staged_index)
 
 pub overflow_add-i-then-is_passed_by : goal.overflow_add-i-then-is_passed_by
 overflow_add-i-then-is_passed_by c = omega (arith, c.loop-i-test.true)
@@ -125,26 +122,26 @@ loop-i-smaller-then-is_passed_by c = omega (arith, c.loop-i-test.true)
 pub loop-i-preserved-then-is_passed_by : goal.loop-i-preserved-then-is_passed_by
 unfolding is_refused
 loop-i-preserved-then-is_passed_by c =
-    let d = c in
-    let a = (start (goal.at.loop-i-preserved-then-is_passed_by c).At-loop-i).args in
+    let d = (goal.at.loop-i-preserved-then-is_passed_by c).At-loop-i in
+    let a = c.args in
     let l = d.loop-i in
     let h = c.hash_at-h in
     let t = c.height_at-height in
     let below : l.i < a.n = c.loop-i-test.true in (
       omega arith,
       going_passed (lent_for a.staged.now a.refused.now a.floor) (window_of a.words.now) (asks (goal.at.loop-i-preserved-then-is_passed_by c).At-loop-i) a.batch a.bytes a.hashes.now a.heights.now a.index.now
-          l.hashes l.heights l.index l.count l.left l.low l.i l.invariant.1 a.mean (start (goal.at.loop-i-preserved-then-is_passed_by c).At-loop-i).requires.1.1.1 (ask h.result t.result) (is d below h.result t.result h.ensures t.ensures)
+          l.hashes l.heights l.index l.count l.left l.low l.i l.invariant.1 a.mean c.requires.1.1.1 (ask h.result t.result) (is d below h.result t.result h.ensures t.ensures)
           (sym c.is_full.ensures ∙ c.if-is_full.false) (sym c.names.ensures ∙ c.if-names.false) (sym c.is_passed_by.ensures ∙ c.if-is_passed_by.true),
     )
 
 pub put_ask-requires : goal.put_ask-requires
 put_ask-requires c =
-    let d = c in
-    let a = (start (goal.at.put_ask-requires c).At-loop-i).args in
+    let d = (goal.at.put_ask-requires c).At-loop-i in
+    let a = c.args in
     let l = d.loop-i in
     let h = c.hash_at-h in
     let t = c.height_at-height in
-    let p = (start (goal.at.put_ask-requires c).At-loop-i).requires.0 in
+    let p = c.requires.0 in
     let more : l.count < a.batch = (room_left a.batch l.count l.left a.mean (sym c.is_full.ensures ∙ c.if-is_full.false)).0 in (
       l.invariant.1.index,
       (
@@ -155,18 +152,18 @@ put_ask-requires c =
 
 pub overflow_sub-left : goal.overflow_sub-left
 overflow_sub-left c =
-    let d = c in
-    let a = (start (goal.at.overflow_sub-left c).At-loop-i).args in
+    let d = (goal.at.overflow_sub-left c).At-loop-i in
+    let a = c.args in
     omega (arith, (room_left a.batch d.loop-i.count d.loop-i.left a.mean (sym c.is_full.ensures ∙ c.if-is_full.false)).1)
 
 pub overflow_add-count : goal.overflow_add-count
 overflow_add-count c =
-    let d = c in
-    let a = (start (goal.at.overflow_add-count c).At-loop-i).args in
-    omega (arith, (room_left a.batch d.loop-i.count d.loop-i.left a.mean (sym c.is_full.ensures ∙ c.if-is_full.false)).0, (start (goal.at.overflow_add-count c).At-loop-i).ranges.batch)
+    let d = (goal.at.overflow_add-count c).At-loop-i in
+    let a = c.args in
+    omega (arith, (room_left a.batch d.loop-i.count d.loop-i.left a.mean (sym c.is_full.ensures ∙ c.if-is_full.false)).0, c.ranges.batch)
 
 pub overflow_add-i-else-is_passed_by : goal.overflow_add-i-else-is_passed_by
-overflow_add-i-else-is_passed_by c = omega (arith, c.loop-i-test.true, (start (goal.at.overflow_add-i-else-is_passed_by c).At-loop-i).fits.n)
+overflow_add-i-else-is_passed_by c = omega (arith, c.loop-i-test.true, c.ranges.n)
 
 pub loop-i-smaller : goal.loop-i-smaller
 loop-i-smaller c = omega (arith, c.loop-i-test.true)
@@ -174,8 +171,8 @@ loop-i-smaller c = omega (arith, c.loop-i-test.true)
 pub loop-i-preserved : goal.loop-i-preserved
 unfolding is_refused
 loop-i-preserved c =
-    let d = c in
-    let a = (start (goal.at.loop-i-preserved c).At-loop-i).args in
+    let d = (goal.at.loop-i-preserved c).At-loop-i in
+    let a = c.args in
     let l = d.loop-i in
     let h = c.hash_at-h in
     let t = c.height_at-height in
@@ -183,7 +180,7 @@ loop-i-preserved c =
     let below : l.i < a.n = c.loop-i-test.true in (
       omega arith,
       going_taken (lent_for a.staged.now a.refused.now a.floor) (window_of a.words.now) (asks (goal.at.loop-i-preserved c).At-loop-i) a.batch a.bytes a.hashes.now a.heights.now a.index.now
-          l.hashes l.heights l.index l.count l.left l.low l.i l.invariant.1 a.mean (start (goal.at.loop-i-preserved c).At-loop-i).requires.1.1.1 (ask h.result t.result) (is d below h.result t.result h.ensures t.ensures)
+          l.hashes l.heights l.index l.count l.left l.low l.i l.invariant.1 a.mean c.requires.1.1.1 (ask h.result t.result) (is d below h.result t.result h.ensures t.ensures)
           (sym c.is_full.ensures ∙ c.if-is_full.false) (sym c.names.ensures ∙ c.if-names.false) put.new.hashes put.new.heights put.new.index
           (sym c.is_passed_by.ensures ∙ c.if-is_passed_by.false) put.ensures.0 put.ensures.1.0 put.ensures.1.1 put.auto.hashes put.auto.heights put.auto.index,
     )
@@ -200,9 +197,9 @@ shape_of-index c = c.loop-i.invariant.1.long_index
 pub returns : goal.returns
 unfolding retries
 returns c =
-    let d = c in
-    let a = (start (goal.at.returns c).At-loop-i).args in
+    let d = (goal.at.returns c).At-loop-i in
+    let a = c.args in
     let l = d.loop-i in
-    let many = asks_count a.gone.now a.keys.now a.n (room (goal.at.returns c).At-loop-i) (asks (goal.at.returns c).At-loop-i) (start (goal.at.returns c).At-loop-i).requires.1.1.0 in
+    let many = asks_count a.gone.now a.keys.now a.n (room (goal.at.returns c).At-loop-i) (asks (goal.at.returns c).At-loop-i) c.requires.1.1.0 in
     going_end (lent_for a.staged.now a.refused.now a.floor) (window_of a.words.now) (asks (goal.at.returns c).At-loop-i) a.batch a.bytes a.hashes.now a.heights.now a.index.now
     l.hashes l.heights l.index l.count l.left l.low l.i l.invariant.1 (omega (arith, c.loop-i-test.false, many))

@@ -25,4 +25,4 @@ pub returns : goal.returns
 returns c =
     let a = c.args in
     let r = c.opening_refused_by-n in
-    opened_so a.clock a.settings a.keys.now a.words.now c.«open».new.0 r.result r.ensures c.if-n-ne0.false c.«open».ensures
+    opened_so a.clock a.settings a.keys.now a.words.now c.«open».new.words r.result r.ensures c.if-n-ne0.false c.«open».ensures

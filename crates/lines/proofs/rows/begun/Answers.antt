@@ -4,9 +4,6 @@ use Rattle.lines.specs.Rows.{begun}
 use borrow.Author.Rules.{rules}
 use Rattle.lines.proofs.rows.begun.Goals as goal
 
--- GONE slice-aggregate-put-2 : tie.Need-slice-aggregate-put-2
--- GONE slice-aggregate-put-2 c = search rules
-
 pub returns : goal.returns
 unfolding begun
 returns c = rw (c.put.ensures, c.name_of-w.ensures, c.put-c.ensures, c.put_number-b.ensures, c.put_number-a.ensures) refl
