@@ -1,5 +1,7 @@
 // What a call is refused by: the numbers of SPECIFICATION 4.1, the lowest first, or 0. Of a request's list, 7 and 8, see `request_calls`; of the lists
 // of a plan, 12 and then 10, see `plan_calls`.
+#![tactic(auto)]
+
 ghost use Rattle.std.specs.Prelude.{◌≡◌, true, false};
 ghost use Rattle.model.specs.Numbers.{clock_ok};
 ghost use Rattle.model.specs.Layout.{settings_ok};

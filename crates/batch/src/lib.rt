@@ -1,5 +1,7 @@
 // Many records let go at once: those that are marked go out in order, with total and frontier; then each resets its owner's start, by a table of
 // the oldest request that every seat has left, filled once.
+#![tactic(auto)]
+
 ghost use Rattle.std.specs.Prelude.{◌≡◌, ◌<◌, ◌≤◌, length};
 ghost use Rattle.model.specs.Numbers.{max_clock};
 ghost use Rattle.model.specs.Seats.{sooner};

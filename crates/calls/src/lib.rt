@@ -1,5 +1,7 @@
 // SPECIFICATION 7.7: the calls that may let go, in words that hold a window, without refusals and lent report. What goes is written, nine words each,
 // in `gone`. The last clock is not set here: the public call does it last.
+#![tactic(auto)]
+
 ghost use Rattle.std.specs.Prelude.{◌≡◌, length, ◌≤◌};
 ghost use Rattle.model.specs.Numbers.{max_seat};
 ghost use Rattle.model.specs.Calls.{body_noted, credit_duplicate_delivery, height_of, is_owner, reject_delivery};

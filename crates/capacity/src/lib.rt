@@ -1,4 +1,6 @@
 // SPECIFICATION 6.6: how much may be asked for. Counts and headrooms are any numbers; no sum is made that could wrap.
+#![tactic(auto)]
+
 ghost use Rattle.std.specs.Prelude.{◌≡◌, ◌+◌, leb};
 ghost use Rattle.model.specs.Capacity.{peer_inflight, capacity_left};
 ghost use Rattle.capacity.specs.OnNumbers.{batch_limit_by, byte_capacity_by, capacity_by, batch_says};

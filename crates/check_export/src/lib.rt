@@ -1,4 +1,6 @@
 // The check as a C function, for bench/check and damage.
+#![tactic(auto)]
+
 ghost use Rattle.std.specs.Prelude.{◌≡◌, ◌&&◌};
 ghost use Rattle.model.specs.Layout.{is_window};
 ghost use Rattle.model.specs.Refusals.{is_long};

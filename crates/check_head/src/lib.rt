@@ -1,5 +1,7 @@
 // Whether the head of 4,096 lent words is a window's, but for the racers of its probe: specs/Layout.antt of the model has its words. A group that is
 // not there is 0 throughout; one that is there has its ranges.
+#![tactic(auto)]
+
 ghost use Rattle.std.specs.Prelude.{◌≡◌, ◌+◌, ◌≤◌, length, eqb};
 ghost use Rattle.model.specs.Layout.{decode, counts_ok, settings_ok, settings_of, small_ok, cold_ok, hedged_ok, observation_ok};
 ghost use Rattle.facts.specs.Words.{zeros, clock, since_fits, probe_fits, later_fits, head_fits};

@@ -1,5 +1,7 @@
 // Whether 4,096 lent words are a window: the model's specs/Layout.antt says how they lie. It reads the words once: OR over what must be 0; one loop over
 // the records, which fills the table of each seat's oldest request; one loop of bits, with no exit, over the seats.
+#![tactic(auto)]
+
 ghost use Rattle.std.specs.Prelude.{◌≡◌, ℕ, ◌+◌, ◌^◌, ◌<◌, ◌≤◌, ◌&&◌, length, ◌==◌, nat_le, nat_lt, slice_index};
 ghost use Rattle.model.specs.Layout.{is_window};
 ghost use Rattle.model.specs.Refusals.{is_long};

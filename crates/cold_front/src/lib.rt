@@ -1,4 +1,6 @@
 // SPECIFICATION 6.10, 7.15: the cold front, in words that hold a window. The last clock is not set here.
+#![tactic(auto)]
+
 ghost use Rattle.std.specs.Prelude.{◌≡◌, cond, ◌-◌, ◌≤◌, leb};
 ghost use Rattle.model.specs.Numbers.{max_clock};
 ghost use Rattle.model.specs.declared.ColdFront.TheVariants.{Idle, Waiting};

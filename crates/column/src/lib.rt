@@ -1,5 +1,7 @@
 // Operations on one column of words, in place. A column is a whole slice: the places past the live ones hold 0, so that an operation on all of
 // the column is the operation on its live places, and no contract names how many are live.
+#![tactic(auto)]
+
 ghost use Rattle.std.specs.Prelude.{◌≡◌, cond, ◌++◌, ◌∷◌, [], ◌-◌, ◌<◌, ◌≤◌, length, set, take, replicate, eqb};
 ghost use Rattle.column.specs.Edits.{remove_at, inserted, kept_by};
 

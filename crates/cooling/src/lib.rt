@@ -1,5 +1,7 @@
 // SPECIFICATION 6.5: the keys that were found unresponsive, in place in their 256 stored times. The clock is `clock` here, since `now` in a contract
 // reads what a slice holds.
+#![tactic(auto)]
+
 ghost use Rattle.std.specs.Prelude.{◌≡◌, map, suc, ◌≤◌, length, get_or};
 ghost use Rattle.model.specs.Numbers.{max_clock, max_seat};
 ghost use Rattle.model.specs.Cooling.{cools, cooling_noted};

@@ -1,6 +1,8 @@
 // SPECIFICATION 7.4 to 7.6, 7.17, 7.18: what deliveries, rejections and the smaller calls change without letting go, in words that hold a window.
 // Contracts as in `state`: the words hold the model's step of the window that they held. The last clock is not set here: the public call does it
 // last.
+#![tactic(auto)]
+
 ghost use Rattle.std.specs.Prelude.{◌≤◌};
 ghost use Rattle.model.specs.Numbers.{max_estimate, max_body};
 ghost use Rattle.model.specs.Calls.{credit_duplicate_delivery, record_delivery_progress, progress_by, next_mean, rejected_by, set_fanout_eligible_peers, clear_preferred_peer};

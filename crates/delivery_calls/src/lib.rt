@@ -1,5 +1,7 @@
 // SPECIFICATION 7.4, 7.5: deliveries, in words that hold a window, without refusals and lent report. What goes is written, nine words each, in
 // `gone`: the delivered entry first, then what the credit let go. The last clock is not set here: the public call does it last.
+#![tactic(auto)]
+
 ghost use Rattle.std.specs.Prelude.{◌≡◌, true, ◌++◌, ◌+◌, ◌≤◌, length};
 ghost use Rattle.model.specs.Numbers.{max_seat, max_body};
 ghost use Rattle.model.specs.Layout.{window_of};

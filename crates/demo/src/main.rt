@@ -1,4 +1,6 @@
 // A node catches up through twelve peers: a script of calls, one line each, and the book at the end.
+#![tactic(auto)]
+
 ghost use Rattle.std.specs.Prelude.{◌≡◌, set};
 ghost use Rattle.ledger.specs.Book.{balanced, capped_sum};
 ghost use Rattle.lines.specs.Words.{verdicts};

@@ -1,5 +1,7 @@
 // Owner timeout and expiry in words that hold a window, and the lowest entry of an expired owner. The timeout is worked out once a scan,
 // and with it the latest start that is expired.
+#![tactic(auto)]
+
 ghost use Rattle.std.specs.Prelude.{◌≡◌, ◌+◌, ◌<◌, ◌≤◌, length, get_or, take, drop};
 ghost use Rattle.model.specs.Numbers.{max_clock, max_duration};
 ghost use Rattle.model.specs.Lists.{select};

@@ -1,1 +1,2 @@
 // What the words of a window say, word by word. No code.
+#![tactic(auto)]

@@ -1,4 +1,6 @@
 // SPECIFICATION 7.3: an owned fetch, in words that hold a window. Contracts as in `state`; the last clock is not set here.
+#![tactic(auto)]
+
 ghost use Rattle.std.specs.Prelude.{◌≡◌, ◌≤◌};
 ghost use Rattle.model.specs.Numbers.{max_seat};
 ghost use Rattle.model.specs.Calls.{asked, fetched, mark_owned_fetch, owned_fetch};

@@ -1,4 +1,6 @@
 // Answers as C structs. `refused` is 0, or the refusal's number, and then every other field is 0.
+#![tactic(auto)]
+
 ghost use Rattle.std.specs.Prelude.{◌≡◌};
 ghost use Rattle.model.specs.Says.{accepted_says, let_go_says, requested_says, fetch_says, received_says, rejected_says, blocked_says, next_request_says, truth_says, number_says, pair_says, perhaps_says, perhaps_pair_says};
 ghost use Rattle.flat.specs.Flat.{done_flat, number_flat, pair_flat, perhaps_flat, perhaps_pair_flat, gone_flat, received_flat, rejected_flat, next_request_flat, blocked_flat, source_if, height_if, sought_if};

@@ -1,4 +1,6 @@
 // Equality and order of hashes. The model compares the numbers that the 32 bytes make; the code compares word by word.
+#![tactic(auto)]
+
 ghost use Rattle.std.specs.Prelude.{◌≡◌, ◌&&◌, eqb};
 ghost use Rattle.model.specs.Hash.{hash, same, less};
 

@@ -1,4 +1,6 @@
 // Heights as callers name them.
+#![tactic(auto)]
+
 ghost use Rattle.std.specs.Prelude.{◌≡◌};
 ghost use Rattle.laws.specs.Fits.{LowHeight};
 ghost use Rattle.heights.specs.Heights.{wide};

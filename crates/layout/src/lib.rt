@@ -1,5 +1,7 @@
 // The head in the 4,096 lent words: 512 words from 3584 on. Each group is read as the value that the definitions read there, and written back by
 // one array and one copy. A contract speaks of `decode`, and asks only that the words are 4,096 and a place is in the head.
+#![tactic(auto)]
+
 ghost use Rattle.std.specs.Prelude.{◌≡◌, ◌∷◌, [], ◌+◌, ◌<◌, ◌≤◌, length};
 ghost use Rattle.model.specs.Pace.{pace};
 ghost use Rattle.model.specs.Layout.{decode, word, hash_at, settings_of, source_of, settings_words, flag_word, source_word};

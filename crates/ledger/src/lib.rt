@@ -1,5 +1,7 @@
 // The book that a program keeps beside the window: what it asked for, and what each call's report let go, by reason. Of the window's own
 // totals it reads nothing: they are compared with it at the end.
+#![tactic(auto)]
+
 ghost use Rattle.std.specs.Prelude.{◌≡◌, ◌≤◌};
 ghost use Rattle.model.specs.Numbers.{lesser};
 ghost use Rattle.ledger.specs.Book.{capped, added, capped_sum, place_of, weight, one_more, tallied, adds_up, balanced, value, empty, opened, of_request, of_fetch, let_go, column};

@@ -1,5 +1,7 @@
 // SPECIFICATION 6.2: the pace record, lent. Three thin functions alter it, each by a rule of `pace`; `changed` lends it to one of them, for callers
 // that have it by value.
+#![tactic(auto)]
+
 ghost use Rattle.std.specs.Prelude.{◌≡◌, suc, ◌≤◌};
 ghost use Rattle.model.specs.Numbers.{max_clock, max_duration, max_front_mean};
 ghost use Rattle.model.specs.Pace.{front_recorded, wait_widened, pace_opened};

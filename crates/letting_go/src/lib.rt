@@ -1,6 +1,8 @@
 // The calls that let go, with their refusals, in lent words. What went is written, nine words each, in `gone`: the public call writes the lent report
 // from it. `room` is that report's length. Each promises `LetsGo` of the change that it is (specs/Letting.antt): answer, words and what went are
 // those of the definitions. A call that lets go one entry at most asks for nine words, the others for 256 times nine.
+#![tactic(auto)]
+
 ghost use Rattle.std.specs.Prelude.{◌≡◌, [], length};
 ghost use Rattle.model.specs.Refusals.{releases, requeues, rejects, expires, retires, retains, credits, receives};
 ghost use Rattle.model.specs.Perform.{says};

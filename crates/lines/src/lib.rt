@@ -1,4 +1,6 @@
 // What `demo` writes, as bytes: numbers set right and grouped by thousands, answers in few words, and one line of 80 bytes for a call.
+#![tactic(auto)]
+
 pub mod cells;
 pub mod rows;
 pub mod words;

@@ -1,6 +1,8 @@
 // An index over a list of hashes, four words a hash: whether the list names a hash is a few looks, however long the list is.
 // Its first words are the heads: for each bucket the last place of the list whose hash is in it, plus 1, and 0 for none. A link for each place
 // follows: the place before it in its bucket, plus 1. Of a list that is longer than there are links, the rest is looked through.
+#![tactic(auto)]
+
 ghost use Rattle.std.specs.Prelude.{◌≡◌, ◌+◌, ◌*◌, ◌/◌, ◌≤◌, false, length, take};
 ghost use Rattle.model.specs.Lists.{any};
 ghost use Rattle.model.specs.Hash.{hash, hashes_in, same};

@@ -1,5 +1,7 @@
 // SPECIFICATION 7.16: the stuck frontier, the stall and the pending timeout, in words that hold a window. Contracts as in `state`; `Sound` is what
 // the arithmetic asks.
+#![tactic(auto)]
+
 ghost use Rattle.std.specs.Prelude.{◌≡◌, ◌&&◌, ◌<◌, ◌≤◌};
 ghost use Rattle.model.specs.Numbers.{max_clock, max_height, max_seat};
 ghost use Rattle.model.specs.Layout.{window_of};

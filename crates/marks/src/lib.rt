@@ -1,5 +1,7 @@
 // Which records go: a mark for each, 0 where it stays, else its reason. Read-only, one loop over the records for each rule; the owner timeout is
 // worked out once and handed in. `count` is how many places are live. Contracts speak of the window that the words say.
+#![tactic(auto)]
+
 ghost use Rattle.std.specs.Prelude.{◌≡◌, cond, not, ◌&&◌, map, ◌+◌, ◌-◌, ◌<◌, ◌≤◌, suc, length, take, eqb, ltb, leb};
 ghost use Rattle.model.specs.Numbers.{max_clock, max_estimate};
 ghost use Rattle.model.specs.Time.{expired, effective_owner_timeout, active};

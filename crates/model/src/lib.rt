@@ -1,4 +1,6 @@
 // Types that code and definitions share, and the names of places, sizes and limits. No code.
+#![tactic(auto)]
+
 pub mod at;
 pub mod head;
 pub mod limits;

@@ -1,4 +1,6 @@
 // The model's `Numbers` in code: what every layer above computes with.
+#![tactic(auto)]
+
 ghost use Rattle.std.specs.Prelude.{◌≡◌, ◌-◌, ◌≤◌, ◌<◌};
 ghost use Rattle.model.specs.Numbers.{lesser, greater, div_ceil, present, age, max_clock, max_height, next_height};
 

@@ -1,4 +1,6 @@
 // SPECIFICATION 7.16: `observe_blocked`, in words that hold a window: its steps in order, and what they come to. The last clock is not set here.
+#![tactic(auto)]
+
 ghost use Rattle.std.specs.Prelude.{◌≡◌, Bool, ℕ};
 ghost use Rattle.model.specs.Layout.{window_of};
 ghost use Rattle.model.specs.Races.{Hedge};

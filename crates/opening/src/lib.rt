@@ -1,4 +1,6 @@
 // SPECIFICATION 7.1: the opening, on any 4,096 words.
+#![tactic(auto)]
+
 ghost use Rattle.std.specs.Prelude.{◌≡◌, length};
 ghost use Rattle.model.specs.Calls.{opened};
 ghost use Rattle.model.specs.Layout.{decode};

@@ -1,4 +1,6 @@
 // SPECIFICATION 6.2: the rules of the pace, by value. What they ask are the ranges in which every window keeps its pace.
+#![tactic(auto)]
+
 ghost use Rattle.std.specs.Prelude.{◌≡◌, suc, ◌≤◌};
 ghost use Rattle.model.specs.Numbers.{max_clock, max_duration, max_front_mean};
 ghost use Rattle.model.specs.Pace.{sample_ms, nearer, front_mean_by, front_mean, twice_ns, decay_floor, stall_decay_floor, decayed, front_recorded};

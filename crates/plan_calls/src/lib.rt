@@ -1,6 +1,8 @@
 // The two calls that plan a request, with their refusals, in lent words. What the sweep lets go is written, nine words each, in `gone`: the public
 // call writes the lent report from it. `room` is that report's length. The plan is written in `hashes` and `heights`. Each promises `PlansGo` of the
 // change that it is (specs/Plans.antt).
+#![tactic(auto)]
+
 ghost use Rattle.std.specs.Prelude.{◌≡◌, true, length};
 ghost use Rattle.model.specs.Refusals.{at, checking, seat_ok, window_refusal, plans, plans_retry};
 ghost use Rattle.model.specs.Perform.{says};

@@ -1,4 +1,6 @@
 // A plan in its two lent lists, and the index over its hashes: one ask more at its end.
+#![tactic(auto)]
+
 ghost use Rattle.std.specs.Prelude.{◌≡◌, ◌∷◌, [], ◌+◌, ◌*◌, ◌≤◌, ◌<◌, length};
 ghost use Rattle.model.specs.Numbers.{max_height};
 ghost use Rattle.model.specs.Hash.{hash_words};

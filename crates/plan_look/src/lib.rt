@@ -1,5 +1,7 @@
 // Request 02, below the scan: the frontier rewound, and what the scan does at one height, over words that hold a window. Staged and refused hashes are
 // lists of four words a hash, each with an index (crate `listed`); the plan is in two lent lists, `hashes` and `heights`, with its own index.
+#![tactic(auto)]
+
 ghost use Rattle.std.specs.Prelude.{◌≡◌, true, not, ◌&&◌, ◌||◌, ◌∷◌, [], ◌+◌, ◌*◌, ◌/◌, ◌<◌, ◌≤◌, length, take, drop, ltb};
 ghost use Rattle.model.specs.Numbers.{max_height};
 ghost use Rattle.model.specs.Lists.{any};

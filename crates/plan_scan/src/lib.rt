@@ -1,6 +1,8 @@
 // Request 02: what is left of a plan once the swept ones are in it and the frontier is rewound: the clean stretch and the scan, over words that hold a window.
 // The chain, and the staged and refused hashes, are lists of four words a hash; each list that is asked whether it names a hash has an index (crate
 // `listed`). The plan is in two lent lists, `hashes` and `heights`, with its own index; `count` asks are in them already.
+#![tactic(auto)]
+
 ghost use Rattle.std.specs.Prelude.{◌≡◌, cond, ◌&&◌, ◌+◌, ◌-◌, ◌<◌, ◌≤◌, length, eqb, ltb, leb};
 ghost use Rattle.model.specs.Numbers.{lesser, greater, next_height, max_height};
 ghost use Rattle.model.specs.Hash.{base};

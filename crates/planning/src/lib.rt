@@ -1,5 +1,7 @@
 // Request 02, without refusals and lent report: the next request is planned, in words that hold a window. What the sweep lets go is written, nine words
 // each, in `gone`, the plan in `hashes` and `heights`. The last clock is not set here: the public call does that last.
+#![tactic(auto)]
+
 ghost use Rattle.std.specs.Prelude.{◌≡◌, ◌/◌, ◌≤◌, length};
 ghost use Rattle.model.specs.Layout.{window_of};
 ghost use Rattle.model.specs.Planning.{next_peer_request, next_peer_request_allowing_retry};

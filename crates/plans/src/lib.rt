@@ -1,4 +1,6 @@
 // The planned hashes, by value, a row of four words each: as they are answered, and written to the head.
+#![tactic(auto)]
+
 ghost use Rattle.std.specs.Prelude.{◌≡◌, length};
 ghost use Rattle.model.specs.Layout.{decode};
 ghost use Rattle.model.specs.Places.{head_probe_hashes};

@@ -1,5 +1,7 @@
 // What a host does: a call of the demo's script made on the lent words, one function for each kind of answer. It answers what is said of the call, the book after it, and the
 // last plan. What is asked of a peer is what was planned for it, as the plan stands in the two lists that are lent for it.
+#![tactic(auto)]
+
 ghost use Rattle.std.specs.Prelude.{◌≡◌, [], length};
 ghost use Rattle.model.specs.Perform.{perform};
 ghost use Rattle.model.specs.Says.{accepted_says, let_go_says};

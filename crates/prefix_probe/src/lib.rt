@@ -1,4 +1,6 @@
 // SPECIFICATION 6.8: the prefix probe, in words that hold a window. The last clock is not set here.
+#![tactic(auto)]
+
 ghost use Rattle.std.specs.Prelude.{◌≡◌, cond, ◌&&◌, ◌≤◌, ◌<◌, length, get_or, eqb};
 ghost use Rattle.model.specs.Numbers.{max_height};
 ghost use Rattle.model.specs.Layout.{window_of, blank};

@@ -1,4 +1,6 @@
 // SPECIFICATION 7.14: the confirmation of a prefix probe, in words that hold a window. The last clock is not set here.
+#![tactic(auto)]
+
 ghost use Rattle.std.specs.Prelude.{◌≡◌, true, ◌&&◌, ◌+◌, ◌*◌, ◌≤◌, length, eqb};
 ghost use Rattle.model.specs.Numbers.{max_clock, max_seat};
 ghost use Rattle.model.specs.Lists.{all};

@@ -1,4 +1,6 @@
 // SPECIFICATION 6.8: the planned hashes of a prefix probe by value, a row of four words each, and the whole answer, of words that hold a window.
+#![tactic(auto)]
+
 ghost use Rattle.std.specs.Prelude.{◌≡◌, cond, ◌≤◌, ◌<◌, length, get_or, leb};
 ghost use Rattle.model.specs.Numbers.{min_estimate};
 ghost use Rattle.model.specs.Lists.{pad};

@@ -1,4 +1,6 @@
 // SPECIFICATION 6.8: the plan of a prefix probe, of words that hold a window.
+#![tactic(auto)]
+
 ghost use Rattle.std.specs.Prelude.{◌≡◌, not, ◌≤◌, ◌<◌, length, eqb};
 ghost use Rattle.model.specs.Numbers.{min_estimate};
 ghost use Rattle.model.specs.Lists.{any};

@@ -1,5 +1,7 @@
 // SPECIFICATION 6.9: a delivery in the race of a prefix probe, in words that hold a window. What goes is written, nine words each, in `gone`; the
 // answer is how many. The last clock is not set here.
+#![tactic(auto)]
+
 ghost use Rattle.std.specs.Prelude.{◌≡◌, cond, not, ◌||◌, ◌≤◌, ◌<◌, ◌^◌, length, get_or, eqb};
 ghost use Rattle.model.specs.Numbers.{max_seat, max_clock, present};
 ghost use Rattle.model.specs.Layout.{window_of};

@@ -1,4 +1,6 @@
 // The queries that are more than a part of the window read: each is the model's, of the window that the words hold. They write nothing.
+#![tactic(auto)]
+
 ghost use Rattle.std.specs.Prelude.{◌≡◌, true, suc, ◌<◌, ◌≤◌, length};
 ghost use Rattle.model.specs.Numbers.{max_front_mean};
 ghost use Rattle.model.specs.Capacity.{has_request_capacity, compute_request_capacity, effective_peer_inflight};

@@ -1,5 +1,7 @@
 // SPECIFICATION 6.9, 6.10: what a delivery does to the races, in words that hold a window. What goes is written, nine words each, in `gone`; the
 // answer is how many. The last clock is not set here.
+#![tactic(auto)]
+
 ghost use Rattle.std.specs.Prelude.{◌≡◌, ℕ, ◌≤◌, ◌<◌, length};
 ghost use Rattle.model.specs.Layout.{window_of};
 ghost use Rattle.model.specs.Races.{hedge_lost, resolve_by, resolve_cold_front_delivery};

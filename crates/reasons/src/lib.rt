@@ -1,4 +1,6 @@
 // The ten reasons for which an entry is let go, and the fixed table that says which lower the frontier.
+#![tactic(auto)]
+
 ghost use Rattle.std.specs.Prelude.{◌≡◌};
 ghost use Rattle.model.specs.Reasons.{lowering, lowers, lowered};
 

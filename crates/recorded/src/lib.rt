@@ -1,5 +1,7 @@
 // Recorded calls as numbers (crates/vectors/VECTORS.md): how they are read, where the parts of a record stand, what a call said as words, and whether that
 // is what was recorded. Nothing here makes a call.
+#![tactic(auto)]
+
 pub mod answers;
 pub mod arguments;
 pub mod compare;

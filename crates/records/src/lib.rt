@@ -1,5 +1,7 @@
 // The records in the 4,096 lent words: eight columns of 256 places. A contract speaks of `decode`, which every list of words has: nothing is
 // asked but lengths and indices, and of one in or out that no record stands after the live ones. `count` is how many places are live.
+#![tactic(auto)]
+
 ghost use Rattle.std.specs.Prelude.{◌≡◌, true, cond, [], ◌∷◌, ◌++◌, ◌-◌, ◌<◌, ◌≤◌, suc, length, take, drop, get_or, replicate, eqb};
 ghost use Rattle.model.specs.Hash.{hash, less};
 ghost use Rattle.column.specs.Edits.{remove_at, inserted};

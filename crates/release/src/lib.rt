@@ -1,5 +1,7 @@
 // SPECIFICATION 6.7, 7.9, 7.10, without refusals and lent report: one entry let go, released or for a retry. What goes is written, nine words each,
 // in `gone`; the answer is how many. The last clock is not set here: the public call does that last.
+#![tactic(auto)]
+
 ghost use Rattle.std.specs.Prelude.{◌≡◌, ◌<◌, ◌≤◌, length, get_or};
 ghost use Rattle.model.specs.LettingGo.{remove_pending, release_pending, lower_to, requeue_for_retry};
 ghost use Rattle.model.specs.Layout.{window_of, blank};

@@ -1,3 +1,5 @@
 // A recorded call (crates/recorded) made on the lent words.
+#![tactic(auto)]
+
 pub mod acts;
 mod asks;

@@ -1,4 +1,6 @@
 // The report's form (SPECIFICATION 13): a lent slice of `Release`, filled by one thin writer from the flat words that the proved steps fill.
+#![tactic(auto)]
+
 ghost use Rattle.std.specs.Prelude.{◌≡◌, ◌++◌, ◌<◌, ◌≤◌, ◌+◌, ◌*◌, length, drop};
 ghost use Rattle.report_words.specs.Report.{release_at, releases_of};
 

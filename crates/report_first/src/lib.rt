@@ -1,4 +1,6 @@
 // A release put before those that are written: the delivered one is the first in the report, and is let go before the others are known.
+#![tactic(auto)]
+
 ghost use Rattle.std.specs.Prelude.{◌≡◌, ◌∷◌, ℕ, suc, ◌+◌, ◌<◌, length, get_or};
 ghost use Rattle.report_words.specs.Report.{release_from, releases_of};
 

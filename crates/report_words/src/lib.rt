@@ -1,4 +1,6 @@
 // What went, as a flat list of words: nine for a release, room for 256. The core of a lent report.
+#![tactic(auto)]
+
 ghost use Rattle.std.specs.Prelude.{◌≡◌, ◌++◌, ◌∷◌, [], ◌+◌, ◌-◌, ◌*◌, ◌<◌, ◌≤◌, suc, length, take};
 ghost use Rattle.model.specs.Lists.{any};
 ghost use Rattle.model.specs.Reasons.{lowered, release};

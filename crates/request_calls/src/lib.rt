@@ -1,5 +1,7 @@
 // A request as a call makes it, in words that hold a window: what its list is refused by, 7 and 8, and the request with its answer and its clock.
 // The list is that of its two slices, of any length.
+#![tactic(auto)]
+
 ghost use Rattle.std.specs.Prelude.{◌≡◌, true, ◌+◌, ◌≤◌, length, drop};
 ghost use Rattle.model.specs.Numbers.{max_seat};
 ghost use Rattle.model.specs.Says.{requested_says};

@@ -1,5 +1,7 @@
 // A request of many entries, in words that hold a window: where `request_order` finds the order of all rows, every record is written once, from
 // the last to the first. Contracts as in `requests`; the last clock is not set here.
+#![tactic(auto)]
+
 ghost use Rattle.std.specs.Prelude.{◌≡◌, ◌+◌, ◌<◌, ◌≤◌, length, take, set};
 ghost use Rattle.model.specs.Numbers.{max_estimate, max_seat};
 ghost use Rattle.model.specs.Lists.{pad};

@@ -1,4 +1,6 @@
 // SPECIFICATION 7.2: a request's entries go in, in words that hold a window. Contracts as in `state`; the last clock is not set here.
+#![tactic(auto)]
+
 ghost use Rattle.std.specs.Prelude.{◌≡◌, ◌+◌, ◌/◌, ◌≤◌, length};
 ghost use Rattle.model.specs.Numbers.{lesser, max_clock, max_estimate, max_seat};
 ghost use Rattle.model.specs.Records.{new_entry};

@@ -1,5 +1,7 @@
 // SPECIFICATION 6.7, 7.12, without refusals and lent report: whole seats dropped, with all that is theirs. `flags` has a word for each seat, nonzero
 // where it is kept. What goes is written, nine words each, in `gone`; the answer is how many.
+#![tactic(auto)]
+
 ghost use Rattle.std.specs.Prelude.{◌≡◌, ◌≤◌, length};
 ghost use Rattle.model.specs.Seats.{keep_seats};
 ghost use Rattle.model.specs.LettingGo.{flagged, observation_kept, retain_peer_assignments, cold_kept, peer_kept, probe_kept, roles_kept, retain_owned_by};

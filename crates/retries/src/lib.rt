@@ -1,4 +1,6 @@
 // SPECIFICATION 16: the first entries of a plan, which are what was swept and is asked for again, by rising height.
+#![tactic(auto)]
+
 ghost use Rattle.std.specs.Prelude.{◌≡◌, true, ◌-◌, ◌/◌, ◌%◌, ◌≤◌, ◌<◌, length, get_or, take};
 ghost use Rattle.model.specs.Numbers.{max_height};
 ghost use Rattle.model.specs.Layout.{window_of, rising};

@@ -1,4 +1,6 @@
 // SPECIFICATION 7.4 to 7.7, 7.17: the rules of deliveries, rejections and fan-out, by value.
+#![tactic(auto)]
+
 ghost use Rattle.std.specs.Prelude.{◌≡◌, true, false, cond, not, ◌&&◌, suc, ◌≤◌, eqb, ltb, leb};
 ghost use Rattle.model.specs.Numbers.{max_estimate, max_body};
 ghost use Rattle.model.specs.Hash.{same};

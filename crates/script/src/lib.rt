@@ -1,5 +1,7 @@
 // The script of the demo is a text: its lines are written as they stand, but those that begin with a colon, which are calls. Here are the lines of a text, a call's
 // numbers in the columns of its line, what a call is given by them, and the line that is written of it.
+#![tactic(auto)]
+
 ghost use Rattle.std.specs.Prelude.{◌≡◌, ◌+◌, ◌*◌, ◌-◌, ◌%◌, ◌≤◌, ◌<◌, eqb, leb, length, get_or, set, drop, replicate};
 ghost use Rattle.model.specs.Numbers.{lesser};
 ghost use Rattle.lines.specs.Rows.{row};

@@ -1,5 +1,7 @@
 // The tables by seat in the 4,096 lent words: starts, last bodies, keys and racers. A contract speaks of `decode`, and asks only lengths,
 // indices and clocks. A missing time is 0 and a time t is t + 1.
+#![tactic(auto)]
+
 ghost use Rattle.std.specs.Prelude.{◌≡◌, ◌<◌, ◌≤◌, suc, cond, not, length, get_or, set, eqb};
 ghost use Rattle.model.specs.Numbers.{max_clock, present};
 ghost use Rattle.model.specs.Lists.{count};

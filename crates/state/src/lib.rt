@@ -1,5 +1,7 @@
 // The window's parts in the 4,096 lent words. A getter reads a part of the window that the words say. A setter is lent words that hold a window and
 // nothing else (`Whole`), and leaves them so, with that part replaced (`Holds`): so calls compose as steps on windows.
+#![tactic(auto)]
+
 ghost use Rattle.std.specs.Prelude.{◌≡◌, ◌<◌, ◌≤◌, length, get_or};
 ghost use Rattle.model.specs.Layout.{window_of, source_word};
 ghost use Rattle.model.specs.Cooling.{key_of};

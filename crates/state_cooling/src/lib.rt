@@ -1,4 +1,6 @@
 // Peers that were found unresponsive, in words that hold a window. Contracts as in `state`.
+#![tactic(auto)]
+
 ghost use Rattle.std.specs.Prelude.{◌≡◌, ◌<◌, ◌≤◌, length};
 ghost use Rattle.model.specs.Numbers.{max_clock, max_seat};
 ghost use Rattle.model.specs.Cooling.{key_of, mark_peer_unresponsive, peer_in_staller_cooldown};

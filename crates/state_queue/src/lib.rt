@@ -1,4 +1,6 @@
 // The entries in words that hold a window, one out, one in or some kept, and the seats' starts and last bodies. Contracts as in `state`.
+#![tactic(auto)]
+
 ghost use Rattle.std.specs.Prelude.{◌≡◌, ◌+◌, ◌-◌, ◌<◌, ◌≤◌, length, get_or, take};
 ghost use Rattle.model.specs.Numbers.{max_clock};
 ghost use Rattle.column.specs.Edits.{remove_at, insert_at, keep_by};

@@ -1,4 +1,6 @@
 // Hedged fronts, and the probe with its hashes and racers, in words that hold a window and nothing else. Contracts as in `state`.
+#![tactic(auto)]
+
 ghost use Rattle.std.specs.Prelude.{◌≡◌, List, ◌++◌, ◌∷◌, [], ◌+◌, ◌*◌, ◌≤◌, ◌<◌, length, get_or, set, take};
 ghost use Rattle.model.specs.Numbers.{present};
 ghost use Rattle.model.specs.Lists.{any, count};

@@ -1,5 +1,7 @@
 // The states in the head of the 4,096 lent words: stall episode, stuck frontier, cold front, observation, probe. Each is read as the value that the
 // definitions read there, and written back whole. A time that is written is at most a clock.
+#![tactic(auto)]
+
 ghost use Rattle.std.specs.Prelude.{◌≡◌, length};
 ghost use Rattle.model.specs.Layout.{decode, word, hash_at, stall_of, stuck_of, cold_of, observation_of, probe_of, stall_words, stuck_words, cold_words, observation_words, probe_words};
 ghost use Rattle.model.specs.Places.{head_stall, head_stall_owner, head_stall_hash, head_stuck, head_stuck_height, head_stuck_hash, head_cold, head_cold_owner, head_cold_other, head_cold_hash, head_observation, head_observation_owner, head_observation_hash, head_probe, head_probe_owner, head_probe_accepted};

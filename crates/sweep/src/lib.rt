@@ -1,5 +1,7 @@
 // SPECIFICATION 6.7, 7.8, 7.11, without refusals and lent report: the sweep, retirement and the forecast. What goes is written, nine words each, in
 // `gone`; the answer is how many. The last clock is not set here: the public call does that last.
+#![tactic(auto)]
+
 ghost use Rattle.std.specs.Prelude.{◌≡◌, true, map, ◌<◌, ◌≤◌, length, take};
 ghost use Rattle.model.specs.Time.{effective_owner_timeout, active, peer_has_expired_pending};
 ghost use Rattle.model.specs.LettingGo.{retire_before, sweep_reason, marked_swept, expire_pending, forecast_blocks, forecast_bytes};

@@ -1,4 +1,6 @@
 // SPECIFICATION 6.1: owner timeout and expiry.
+#![tactic(auto)]
+
 ghost use Rattle.std.specs.Prelude.{◌≡◌, suc, ◌≤◌};
 ghost use Rattle.model.specs.Numbers.{max_clock, max_duration, max_seat};
 ghost use Rattle.model.specs.Time.{owner_timeout, expired};

@@ -1,5 +1,7 @@
 // Replays the calls that the oracle recorded (stdin; VECTORS.md says how they were made): each answer, each report and all words after each call
 // are compared with the recorded ones, part by part (crates/recorded), and what differs is named. Every call is a public one, made by crates/replayed.
+#![tactic(auto)]
+
 use recorded::compare::{compared, is_same};
 use recorded::input::read_numbers;
 use recorded::runs::{put_runs, record_at};

@@ -1,4 +1,6 @@
 // SPECIFICATION 7.16: the rules of a look, by value.
+#![tactic(auto)]
+
 ghost use Rattle.std.specs.Prelude.{◌≡◌, ◌≤◌};
 ghost use Rattle.model.specs.Numbers.{max_duration};
 ghost use Rattle.model.specs.Window.{Window};

@@ -1,4 +1,6 @@
 // THE PUBLIC QUERIES: each with its refusals, on the lent words, which it does not write. No function has a `requires`.
+#![tactic(auto)]
+
 ghost use Rattle.std.specs.Prelude.{◌≡◌, []};
 ghost use Rattle.model.specs.Refusals.{queries};
 ghost use Rattle.model.specs.Queries.{reads, perhaps, source_values, probe_values, capacity_values, preferred_peer, probe_plan, probe_start, front_interval_ewma_ms, asks_owner, asks_queue_start, asks_compute_capacity, asks_probe_offered, pending_len, pending_bytes, asks_expired_capacity, stall_timeout, max_pending_blocks, min_peers_for_fanout, fanout_active, pending_high_water, stalling_peer, peer_inflight, active_peers, decay_floor, request_cursor, ewma_block_bytes, asks_request_capacity, asks_contains, asks_count_for, asks_downloading, owner_timeout, asks_hedge_offered, asks_has_expired, asks_cooldown};
