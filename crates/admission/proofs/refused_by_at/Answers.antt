@@ -31,7 +31,7 @@ returns-then-not-clock_fits c =
     let v = a_window ws n w.result w.ensures (ap not c.if-not-is_window.false) in
     let l = c.get_clock-last in
     let k = c.clock_fits in
-    refused_4 _ _ 0 n v (report_none 0) (not_now k.result l.result (window_of ws).clock a.clock k.ensures l.ensures c.if-not-clock_fits.true)
+    refused_4 _ _ 0 n v (report_none 0) (not_now k.result l.result (window_of ws).clock a.clock k.ensures l.ensures (ap not c.if-not-clock_fits.true))
 
 pub returns-then-not-peers : goal.returns-then-not-peers
 returns-then-not-peers c =
@@ -42,7 +42,7 @@ returns-then-not-peers c =
     let v = a_window ws n w.result w.ensures (ap not c.if-not-is_window.false) in
     let l = c.get_clock-last in
     let k = c.clock_fits in
-    refused_6 _ _ 0 n v (report_none 0) (in_time k.result l.result (window_of ws).clock a.clock k.ensures l.ensures c.if-not-clock_fits.false) (c.if-not-peers.true)
+    refused_6 _ _ 0 n v (report_none 0) (in_time k.result l.result (window_of ws).clock a.clock k.ensures l.ensures (ap not c.if-not-clock_fits.false)) (c.if-not-peers.true)
 
 pub returns : goal.returns
 returns c =
@@ -53,4 +53,4 @@ returns c =
     let v = a_window ws n w.result w.ensures (ap not c.if-not-is_window.false) in
     let l = c.get_clock-last in
     let k = c.clock_fits in
-    by_content _ _ 0 n v (report_none 0) (in_time k.result l.result (window_of ws).clock a.clock k.ensures l.ensures c.if-not-clock_fits.false) (c.if-not-peers.false)
+    by_content _ _ 0 n v (report_none 0) (in_time k.result l.result (window_of ws).clock a.clock k.ensures l.ensures (ap not c.if-not-clock_fits.false)) (c.if-not-peers.false)

@@ -8,4 +8,4 @@ use Rattle.kofudile.proofs.Exports.{exports}
 use Rattle.kofudile.proofs.kofudile_credit_delivery_from.Goals as goal
 
 pub returns : goal.returns
-returns c = exports _ _ (ap (λ (given : Height). credits c.args.clock c.args.h c.args.source given) c.height_of-given.ensures) _ _ _ _ let_go_says gone_flat _ _ c.of_let_go.ensures c.credit_delivery_from.ensures
+returns c = exports _ _ (ap (λ (given : Height). credits c.args.clock c.args.h c.args.source given) c.height_of-pending.ensures) _ _ _ _ let_go_says gone_flat _ _ c.of_let_go.ensures c.credit_delivery_from.ensures
