@@ -14,12 +14,11 @@ use Rattle.model.specs.Lists.{all}
 use Rattle.model.specs.Records.{sum}
 use Rattle.model.specs.Seats.{oldest}
 use Rattle.model.specs.Layout.{Table, is_0, is_blank, rows, decode, word, live, time_ok, entry_ok, rising, start_ok, starts_ok, counts_ok, probe_ok, is_window}
-use Rattle.model.specs.Layout as layout
 use Rattle.model.specs.Refusals.{is_long}
 use Rattle.laws.specs.Numbers.{both, and_left, and_right, and_both}
 use Rattle.facts.specs.Flags.{same, Says, says_iff, says_is, says_same, says_eq, fold, fold_every, hold_row, more, none, all_below, all_at, all_each}
 use Rattle.laws.specs.Every.{hold}
-use Rattle.facts.specs.Words.{at, count, clock, latest, total, start, cooling, racer, zeros, blank_at, tails_zero, unused_zero, fields_fit, rises, record_fits, records_fit, sum_of, total_fits, oldest_of, start_by, seat_fits, seats_fit, probe_fits, later, later_fits, head_fits, conditions, fits}
+use Rattle.facts.specs.Words.{at, count, clock, latest, total, start, racer, zeros, blank_at, tails_zero, unused_zero, fields_fit, rises, record_fits, records_fit, sum_of, total_fits, oldest_of, start_by, seat_fits, seats_fit, probe_fits, later, later_fits, head_fits, conditions, fits}
 use Rattle.facts.specs.Head.{word_at, part, counts_count}
 use Rattle.facts.specs.Lists.{says_part, says_first, says_rest, blank_is}
 use Rattle.facts.specs.Sound.{Sound, valid_says}

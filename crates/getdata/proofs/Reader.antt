@@ -1,13 +1,13 @@
 -- Laws for the reader of getdata's payload: what its tests and turns say of the definitions. Assumes nothing.
 use mathlib.Core.Path.{◌≡◌, refl, sym, ap, ◌∙◌}
-use mathlib.Core.Bool.{Bool, true, false, cond, not, ◌&&◌}
+use mathlib.Core.Bool.{Bool, true, false, cond, ◌&&◌}
 use mathlib.Core.List.{List, [], ◌∷◌, ◌++◌, append_assoc, append-nil}
 use Prim.Native.Nat.{ℕ, suc, ◌+◌, ◌*◌, ◌-◌, ◌≤◌, ◌<◌}
 use native.Mathlib.Omega.{arith}
 use lib.Dec.{eqb, leb, ltb}
 use lib.ListN.{length, get_or, take, drop, set, length-drop, drop_of_length-le}
 use lib.Seq.{take_all, drop-cons, drop-drop}
-use borrow.Author.Tests.{eq-eqb, ne_eqb, lt-ltb, le-ltb, le-leb, lt-leb, not-true, not-false}
+use borrow.Author.Tests.{eq-eqb, ne_eqb, lt-ltb, le-leb, lt-leb}
 use Rattle.model.specs.Hash.{hash_words, hashes_words}
 use Rattle.model.specs.Perform.{refused, says}
 use Rattle.model.specs.Getdata.{from_little_endian, from_big_endian, in_two, count_width, count_of, shortest, type_of, msg_witness_block, word_at, entry_hash, all_blocks, entry_hashes}

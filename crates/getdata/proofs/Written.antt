@@ -1,13 +1,11 @@
 -- The laws that the writer's proofs cite: parts of the lent bytes written one after the other, the bytes of a number, the entries of a list of words.
 -- Assumes nothing.
 use mathlib.Core.Path.{◌≡◌, refl, sym, ap, ◌∙◌}
-use mathlib.Core.Bool.{Bool, true, false, cond}
 use mathlib.Core.List.{List, [], ◌∷◌, ◌++◌, append_assoc, append-nil}
 use Prim.Native.Nat.{ℕ, suc, ◌+◌, ◌-◌, ◌*◌, ◌/◌, ◌%◌, ◌≤◌, ◌<◌}
 use native.Mathlib.Omega.{arith}
 use lib.ListN.{length, take, drop, get_or, set, length-append, length-drop, drop_of_length-le}
-use lib.Seq.{take_all, take_at, drop_at, drop-drop, drop-cons, length-take-le, take-suc-set}
-use lib.Dec.{ltb}
+use lib.Seq.{take_all, take_at, drop_at, drop-drop, drop-cons, take-suc-set}
 use borrow.Author.Tests.{lt-ltb, le-ltb}
 use Rattle.model.specs.declared.Hash.{Hash}
 use Rattle.model.specs.Hash.{hash, hashes_in}

@@ -1,5 +1,5 @@
 -- What each accepted change does to the pending entries: it opens what the book writes, and then picks out what it reports. Assumes nothing.
-use Rattle.std.specs.Prelude.{◌≡◌, refl, true, cond, not, ◌&&◌, List, [], ◌∷◌, ℕ, ◌+◌, ◌-◌, ◌≤◌, length}
+use Rattle.std.specs.Prelude.{◌≡◌, refl, true, cond, not, ◌&&◌, List, [], ◌∷◌, ℕ, ◌+◌, ◌≤◌, length}
 use Rattle.std.proofs.Common.{inl, inr, arith, leb-true}
 use Rattle.model.specs.Records.{new_entry}
 use Rattle.model.specs.Window.{Window, Queue, Step}

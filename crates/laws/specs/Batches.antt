@@ -23,7 +23,7 @@ use Rattle.model.specs.declared.Release.{Release}
 use Rattle.model.specs.declared.Front.TheVariants.{At}
 use Rattle.laws.specs.Numbers.{both, cond_same, greater_first}
 use Rattle.laws.specs.Bag.{weigh, one, Pick, here, there, pick_weigh}
-use Rattle.laws.specs.Entries.{estimate_of, on, with_hash, on_self, by_entry, rising_one, remove_pick, at, Picks, done, more, picks_weigh, sift, each_picks, owned, early, oldest_none, oldest_first, first_oldest}
+use Rattle.laws.specs.Entries.{estimate_of, on, with_hash, on_self, by_entry, rising_one, remove_pick, Picks, done, more, picks_weigh, sift, each_picks, owned, early, oldest_none, oldest_first, first_oldest}
 use Rattle.laws.specs.Sound.{InRange, Seat, SoundQueue, Sound}
 use Rattle.laws.specs.Queues.{oldest_top, resets_pending, resets_total, queue_outs}
 use Rattle.laws.specs.Lets.{remove_lets}

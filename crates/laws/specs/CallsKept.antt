@@ -1,5 +1,5 @@
 -- Deliveries, rejections and the smaller calls (SPECIFICATION 7) keep a window sound; and so does an opening. Assumes nothing.
-use Rattle.std.specs.Prelude.{◌≡◌, refl, true, ◌&&◌, ◌||◌, List, ℕ, suc, ◌+◌, ◌-◌, ◌*◌, ◌/◌, ◌≤◌, eqb}
+use Rattle.std.specs.Prelude.{◌≡◌, refl, true, ◌&&◌, ◌||◌, List, ℕ, suc, ◌+◌, ◌*◌, ◌/◌, ◌≤◌, eqb}
 use Rattle.std.proofs.Common.{inl, inr, arith}
 use Rattle.model.specs.Numbers.{max_clock, max_seat, max_body, min_estimate, max_estimate}
 use Rattle.model.specs.Hash.{same}

@@ -1,5 +1,5 @@
 -- Laws of the entries: what an insertion, a removal and a sifting do to every weight, to the order and to the oldest times. Assumes nothing.
-use Rattle.std.specs.Prelude.{◌≡◌, false, cond, ℕ, zero, suc, ◌+◌, ◌-◌, ◌≤◌, ◌<◌, eqb, ltb}
+use Rattle.std.specs.Prelude.{◌≡◌, false, cond, ℕ, zero, suc, ◌+◌, ◌≤◌, ◌<◌, eqb, ltb}
 use Rattle.std.proofs.Math.Path.{refl}
 use Rattle.std.proofs.Common.{ap, eqb-true, ltb-true, ltb-false, eq-eqb, ne_eqb}
 use Rattle.std.proofs.Math.Logic.{inl, inr}

@@ -1,6 +1,6 @@
 -- What SPECIFICATION 6.7 says keeps a window sound, and what goes is picked out of the pending entries. Steps run at the clock c of the soundness.
 -- Assumes nothing.
-use Rattle.std.specs.Prelude.{◌≡◌, refl, Bool, not, ◌&&◌, ◌||◌, List, [], ◌∷◌, ℕ, suc, ◌-◌, ◌≤◌, ltb}
+use Rattle.std.specs.Prelude.{◌≡◌, refl, Bool, not, ◌&&◌, ◌||◌, List, [], ◌∷◌, ℕ, suc, ◌≤◌, ltb}
 use Rattle.std.proofs.Common.{◌∙◌, inl, inr, arith}
 use Rattle.model.specs.Numbers.{present}
 use Rattle.model.specs.Lists.{any, count}

@@ -1,6 +1,6 @@
 -- A mark for each entry, 0 where it stays, else its reason: what goes and what is kept by marks is what goes and is kept by the model's `goes`.
 -- Assumes nothing.
-use Rattle.std.specs.Prelude.{◌≡◌, refl, List, [], ◌∷◌, map, ℕ, zero, suc, ◌+◌, ◌-◌, ◌≤◌, ◌<◌, length, get_or, take, drop}
+use Rattle.std.specs.Prelude.{◌≡◌, refl, List, [], ◌∷◌, map, ℕ, zero, suc, ◌+◌, ◌≤◌, ◌<◌, length, get_or, take, drop}
 use Rattle.std.proofs.Common.{sym, ap, ◌∙◌, le_of_suc-le-suc, not-suc-le-zero, arith}
 use Rattle.column.specs.Edits.{kept_if, keep_by}
 use Rattle.model.specs.Reasons.{release}

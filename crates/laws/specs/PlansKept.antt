@@ -1,5 +1,5 @@
 -- What planning leaves of a window and lets go: the window as it was, or its sweep, which may be rewound; and that keeps it sound. Assumes nothing.
-use Rattle.std.specs.Prelude.{◌≡◌, refl, Bool, true, false, cond, ◌&&◌, ◌||◌, List, ℕ, ◌+◌, ◌-◌, ◌≤◌, drop, leb}
+use Rattle.std.specs.Prelude.{refl, Bool, true, false, cond, ◌&&◌, ◌||◌, List, ℕ, drop, leb}
 use Rattle.std.proofs.Common.{inl, inr, arith, ltb-true}
 use Rattle.std.proofs.Math.Dec.{ltb}
 use Rattle.model.specs.Hash.{hashes_in}

@@ -1,5 +1,5 @@
 -- What SPECIFICATION 6.5 and 6.8 to 6.10 say keeps a window sound: cooling, the prefix probe and the cold front. Assumes nothing.
-use Rattle.std.specs.Prelude.{refl, cond, not, ◌&&◌, ◌||◌, List, [], ◌∷◌, ◌++◌, ℕ, zero, suc, ◌+◌, ◌-◌, ◌*◌, ◌/◌, ◌^◌, ◌≤◌, ◌<◌, length, get_or, set, eqb, ltb, leb}
+use Rattle.std.specs.Prelude.{refl, cond, not, ◌&&◌, ◌||◌, List, [], ◌∷◌, ◌++◌, ℕ, zero, suc, ◌+◌, ◌*◌, ◌/◌, ◌^◌, ◌≤◌, ◌<◌, length, get_or, set, eqb, ltb, leb}
 use Rattle.std.proofs.Common.{inl, inr, arith, length-append, ltb-true, leb-false}
 use Rattle.std.proofs.Math.Nat.{pow-le-pow_right}
 use Rattle.std.specs.Int.Bits.{bit_or}

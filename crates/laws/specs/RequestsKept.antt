@@ -1,5 +1,5 @@
 -- A request and an owned fetch keep a window sound. Assumes nothing.
-use Rattle.std.specs.Prelude.{◌≡◌, Bool, true, false, cond, not, ◌&&◌, ◌||◌, ℕ, zero, suc, ◌+◌, ◌-◌, ◌≤◌, ◌<◌, get_or, eqb, leb}
+use Rattle.std.specs.Prelude.{◌≡◌, Bool, true, false, cond, not, ◌&&◌, ◌||◌, ℕ, zero, suc, ◌+◌, ◌≤◌, ◌<◌, get_or, eqb, leb}
 use Rattle.std.proofs.Math.Path.{refl, ap}
 use Rattle.std.proofs.Common.{sym, ◌∙◌, true≢false, get_or-set_same, get_or-set_other}
 use Rattle.std.proofs.Math.Logic.{inl, inr}
@@ -13,7 +13,7 @@ use Rattle.model.specs.Lists.{all, any}
 use Rattle.model.specs.Hash.{key, same}
 use Rattle.model.specs.Records.{new_entry, insert, found, is_there, sum, pending_count_for}
 use Rattle.model.specs.Seats.{oldest, start_noted}
-use Rattle.model.specs.Window.{Window, Queue, HighWater, queue, with_attempted, with_frontier}
+use Rattle.model.specs.Window.{Window, Queue, HighWater, with_attempted, with_frontier}
 use Rattle.model.specs.Capacity.{capacity_left, has_request_capacity, effective_peer_inflight}
 use Rattle.model.specs.Races.{is_empty}
 use Rattle.model.specs.Calls.{Ask, put, puts, raised, started, noted, mark_requested, Fetching, held, staged, asked, no_capacity, owned_fetch, fetched, mark_owned_fetch}

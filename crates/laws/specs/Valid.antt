@@ -2,11 +2,11 @@
 use Rattle.std.specs.Prelude.{◌≡◌, refl, Bool, true, cond, List, [], ◌∷◌, ◌++◌, length, get_or, take, drop, replicate, eqb, leb, ltb}
 use Rattle.std.proofs.Common.{inl, inr, arith, length-drop, length-take-le}
 use Rattle.std.proofs.lemmas.Bool.{false≢true}
-use Prim.Native.Nat.{ℕ, zero, suc, ◌+◌, ◌-◌, ◌*◌, ◌≤◌, ◌<◌}
+use Prim.Native.Nat.{ℕ, zero, suc, ◌+◌, ◌*◌, ◌≤◌, ◌<◌}
 use borrow.Author.Tests.{eqb-true, eqb-false, eq-eqb, ne_eqb, leb-true, le-leb, ltb-true, lt-ltb}
 use Rattle.model.specs.Numbers.{max_height, min_estimate, max_estimate, max_seat}
 use Rattle.model.specs.Lists.{all, every, pad}
-use Rattle.model.specs.Hash.{hash, key, less, hash_words, hashes_in, hashes_words}
+use Rattle.model.specs.Hash.{key, less, hash_words, hashes_in, hashes_words}
 use Rattle.model.specs.Seats.{oldest}
 use Rattle.model.specs.Layout.{Table, blank, word, words_at, hash_at, is_0, zeros, time_ok, is_blank, entry_ok, less_first, rising, start_ok, starts_ok, stall_words, stall_of, stuck_words, stuck_of, cold_words, cold_of, observation_words, observation_of, probe_words, planned_words, probe_of, stall_ok, stuck_ok, cold_by, cold_ok, observation_by, observation_ok, probe_ok}
 use Rattle.model.specs.declared.Hash.{Hash}

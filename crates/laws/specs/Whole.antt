@@ -1,12 +1,11 @@
 -- Words that hold a window and nothing else, and the one way in which a step on words is a step on windows. No clock has a part in it: a call sets
 -- the last clock as its last step. Assumes nothing.
-use Rattle.std.specs.Prelude.{◌≡◌, true, List, [], ◌∷◌, ◌++◌, ℕ, suc, ◌+◌, ◌-◌, ◌*◌, ◌≤◌, get_or, drop, replicate}
+use Rattle.std.specs.Prelude.{◌≡◌, true, List, [], ◌∷◌, ◌++◌, ℕ, suc, ◌-◌, ◌*◌, ◌≤◌, get_or, drop, replicate}
 use Rattle.std.proofs.Math.Path.{refl, sym, ap}
 use Rattle.std.proofs.Common.{subst, ◌∙◌, arith, length-take, take_at}
 use Rattle.std.proofs.Math.ListN.{length, take, length-append, length-replicate}
 use Rattle.model.specs.Lists.{pad}
 use Rattle.model.specs.Hash.{hashes_in, hashes_words}
-use Rattle.model.specs.Pace.{pace}
 use Rattle.model.specs.Layout.{Table, is_window, rising, blank, decode, encode, window_of, read, table, word, words_at, live, settings_of, settings_words, stall_words, stuck_words, cold_words, hedged_words, observation_words, probe_words, planned_words, counts_words, small_words, head_words}
 use Rattle.model.specs.Window.{Window, window, queue, races, watch}
 use Rattle.model.specs.declared.Hash.{Hash}

@@ -2,7 +2,7 @@
 -- Branch retargeting is left out. The Rust walks the chain down from the end of its reach and takes the last it saw; here the same heights rise,
 -- and the first are taken. A hash that is already in the plan is passed by like a pending one: on a chain that names no hash twice that is what the
 -- Rust does.
-use Rattle.std.specs.Prelude.{ℕ, zero, suc, ◌+◌, ◌-◌, ◌/◌, Bool, true, false, cond, not, ◌&&◌, ◌||◌, List, [], ◌∷◌, ◌++◌, map, length, take, drop, eqb, ltb, leb}
+use Rattle.std.specs.Prelude.{ℕ, suc, ◌+◌, ◌-◌, ◌/◌, Bool, false, cond, not, ◌&&◌, ◌||◌, List, [], ◌∷◌, ◌++◌, map, length, take, drop, eqb, ltb, leb}
 use Rattle.model.specs.Numbers.{lesser, greater, next_height}
 use Rattle.model.specs.Lists.{any, select, every}
 use Rattle.model.specs.Hash.{same, hashes_in}
@@ -15,9 +15,7 @@ use Rattle.model.specs.LettingGo.{expire_pending}
 use Rattle.model.specs.Races.{is_empty, by_height}
 use Rattle.model.specs.Calls.{Ask}
 use Rattle.model.specs.declared.Hash.{Hash}
-use Rattle.model.specs.declared.Entry.{Entry}
 use Rattle.model.specs.declared.Release.{Release}
-use Rattle.model.specs.declared.Settings.{Settings}
 use Rattle.model.specs.declared.Height.{Height}
 use Rattle.model.specs.declared.Height.TheVariants.{Unknown, Known}
 

@@ -1,5 +1,5 @@
 -- Expiry as one comparison with a limit. A start of 64 bits that is there is expired where it is at most the limit. Assumes nothing.
-use Rattle.std.specs.Prelude.{◌≡◌, refl, Bool, true, false, cond, not, ◌&&◌, ℕ, suc, ◌-◌, ◌≤◌, ◌<◌, eqb, leb}
+use Rattle.std.specs.Prelude.{◌≡◌, Bool, cond, not, ◌&&◌, ℕ, suc, ◌-◌, ◌≤◌, ◌<◌, eqb, leb}
 use Rattle.std.proofs.Common.{sym, ◌∙◌, inl, inr, arith, eqb-true, leb-true, leb-false, le-leb}
 use Rattle.std.proofs.lemmas.Bool.{eqb-false, lt-leb}
 use Rattle.model.specs.Numbers.{present, age}

@@ -1,12 +1,12 @@
 -- `column::clear_from` meets its contract: at the loop's head the column has the result's first i words, and then its own. Assumes nothing.
 use mathlib.Core.Path.{◌≡◌, refl, sym, ap, ◌∙◌}
-use mathlib.Core.List.{List, ◌++◌}
+use mathlib.Core.List.{List}
 use Prim.Native.Nat.{ℕ, ◌-◌, ◌≤◌}
 use native.Mathlib.Omega.{arith}
 use native.Mathlib.Numerals.{add-one}
 use lib.ListN.{length, get_or, set, take, replicate, length-set, length-append, length-replicate, get_or-eq_default}
 use lib.Seq.{length-take-le, take_at}
-use Rattle.column.proofs.Laws.{over, over_start, over_step, over_done, get_or_pad}
+use Rattle.column.proofs.Laws.{over_start, over_step, over_done, get_or_pad}
 use Rattle.column.proofs.clear_from.Invariants.{T}
 use Rattle.column.proofs.clear_from.Goals as goal
 

@@ -1,12 +1,9 @@
 -- `column::clear_from` meets its contract: at the loop's head the column has the result's first i words, and then its own. Assumes nothing.
-use mathlib.Core.Path.{◌≡◌, refl, sym, ap, ◌∙◌}
+use mathlib.Core.Path.{◌≡◌}
 use mathlib.Core.List.{List, ◌++◌}
 use Prim.Native.Nat.{ℕ, ◌-◌, ◌≤◌}
-use native.Mathlib.Omega.{arith}
-use native.Mathlib.Numerals.{add-one}
-use lib.ListN.{length, get_or, set, take, replicate, length-set, length-append, length-replicate, get_or-eq_default}
-use lib.Seq.{length-take-le, take_at}
-use Rattle.column.proofs.Laws.{over, over_start, over_step, over_done, get_or_pad}
+use lib.ListN.{length, take, replicate}
+use Rattle.column.proofs.Laws.{over}
 use Rattle.column.proofs.clear_from.Given as goal
 
 abbrev pub T : ℕ → List ℕ → List ℕ

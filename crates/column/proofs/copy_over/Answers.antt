@@ -1,11 +1,11 @@
 -- `column::copy_over` meets its contract: at the loop's head the column has the first i words of `src`, and then its own. Assumes nothing.
-use mathlib.Core.Path.{◌≡◌, refl, ap, ◌∙◌}
-use Prim.Native.Nat.{ℕ, ◌-◌, ◌≤◌}
+use mathlib.Core.Path.{refl, ap, ◌∙◌}
+use Prim.Native.Nat.{ℕ}
 use native.Mathlib.Omega.{arith}
 use native.Mathlib.Numerals.{add-one}
-use lib.ListN.{length, get_or, set, length-set}
+use lib.ListN.{get_or, set, length-set}
 use mathlib.Core.List.{List}
-use Rattle.column.proofs.Laws.{over, over_step, over_done}
+use Rattle.column.proofs.Laws.{over_step, over_done}
 use Rattle.column.proofs.copy_over.Goals as goal
 
 pub loop-i-init : goal.loop-i-init

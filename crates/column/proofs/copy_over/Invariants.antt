@@ -1,11 +1,8 @@
 -- `column::copy_over` meets its contract: at the loop's head the column has the first i words of `src`, and then its own. Assumes nothing.
-use mathlib.Core.Path.{◌≡◌, refl, ap, ◌∙◌}
-use Prim.Native.Nat.{ℕ, ◌-◌, ◌≤◌}
-use native.Mathlib.Omega.{arith}
-use native.Mathlib.Numerals.{add-one}
-use lib.ListN.{length, get_or, set, length-set}
-use mathlib.Core.List.{List}
-use Rattle.column.proofs.Laws.{over, over_step, over_done}
+use mathlib.Core.Path.{◌≡◌}
+use Prim.Native.Nat.{◌-◌, ◌≤◌}
+use lib.ListN.{length}
+use Rattle.column.proofs.Laws.{over}
 use Rattle.column.proofs.copy_over.Given as goal
 
 abbrev pub invariant-loop-i : goal.invariant-loop-i

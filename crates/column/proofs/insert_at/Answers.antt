@@ -4,7 +4,6 @@ use mathlib.Core.List.{List, ◌++◌}
 use Prim.Native.Nat.{ℕ, ◌+◌, ◌-◌}
 use native.Mathlib.Omega.{arith}
 use lib.ListN.{length, take}
-use borrow.Author.Rules.{rules}
 use Rattle.column.specs.Edits.{inserted}
 use Rattle.column.proofs.Parts.{rest_of, put_rest}
 use Rattle.column.proofs.Laws.{inserted_rest}

@@ -2,11 +2,10 @@
 -- nothing.
 use mathlib.Core.Path.{◌≡◌, refl, sym, ap, ◌∙◌}
 use mathlib.Core.List.{List, ◌++◌, append-nil}
-use Prim.Native.Nat.{ℕ, suc, ◌-◌, ◌≤◌, ◌<◌}
+use Prim.Native.Nat.{ℕ, suc, ◌-◌, ◌≤◌}
 use native.Mathlib.Omega.{arith}
 use lib.ListN.{length, take, drop, get_or, set, length-set, take-append-drop, drop_of_length-le}
 use lib.Seq.{take-take, length-take-le, get_or-take, take-length}
-use Rattle.model.specs.Lists.{all}
 use Rattle.column.specs.Edits.{insert_at, inserted}
 use Rattle.column.proofs.Laws.{over, under_step, under_read, length_inserted, take_inserted, get_or_inserted_at, get_or_inserted_after}
 use Rattle.column.proofs.insert_first.Invariants.{T, Inv}

@@ -1,14 +1,11 @@
 -- `column::insert_first` meets its contract: at the loop's head the places after i have the words of the result, and the others their own. Assumes
 -- nothing.
-use mathlib.Core.Path.{◌≡◌, refl, sym, ap, ◌∙◌}
-use mathlib.Core.List.{List, ◌++◌, append-nil}
-use Prim.Native.Nat.{ℕ, suc, ◌-◌, ◌≤◌, ◌<◌}
-use native.Mathlib.Omega.{arith}
-use lib.ListN.{length, take, drop, get_or, set, length-set, take-append-drop, drop_of_length-le}
-use lib.Seq.{take-take, length-take-le, get_or-take, take-length}
-use Rattle.model.specs.Lists.{all}
-use Rattle.column.specs.Edits.{insert_at, inserted}
-use Rattle.column.proofs.Laws.{over, under_step, under_read, length_inserted, take_inserted, get_or_inserted_at, get_or_inserted_after}
+use mathlib.Core.Path.{◌≡◌}
+use mathlib.Core.List.{List}
+use Prim.Native.Nat.{ℕ, suc, ◌≤◌, ◌<◌}
+use lib.ListN.{length, take}
+use Rattle.column.specs.Edits.{insert_at}
+use Rattle.column.proofs.Laws.{over}
 use Rattle.column.proofs.insert_first.Given as goal
 
 -- the result

@@ -10,11 +10,9 @@ use native.Mathlib.Numerals.{add-one}
 use lib.ListN.{length, get_or, set, take, drop, replicate, length-set, drop_of_length-le}
 use lib.Seq.{get_or-set_other, take-set-le, take-suc-set, length-take-le}
 use lib.Dec.{eqb}
-use borrow.Author.Rules.{rules}
 use borrow.Author.Tests.{eqb-true, eqb-false}
 use Rattle.column.specs.Edits.{keep_by, kept_by}
 use Rattle.column.proofs.Laws.{keep_one, keep_none}
-use Rattle.column.proofs.places_on.Reads as places-on-reads
 use Rattle.column.proofs.keep_unmarked.Invariants.{Inv}
 use Rattle.column.proofs.keep_unmarked.Goals as goal
 

@@ -1,20 +1,10 @@
 -- `column::keep_unmarked` meets its contract. The invariant of its loop: the first j words of the column and what is unmarked from i on are all that
 -- is kept, and the words from i on are as they were; what stands between is no one's. Assumes nothing.
-use mathlib.Core.Path.{◌≡◌, refl, sym, ap, ◌∙◌}
-use mathlib.Core.Logic.{◌⊎◌, inl, inr}
-use mathlib.Core.Bool.{Bool, true, false, cond}
-use mathlib.Core.List.{List, [], ◌∷◌, ◌++◌, append_assoc, append-nil}
-use Prim.Native.Nat.{ℕ, suc, ◌+◌, ◌-◌, ◌≤◌, ◌<◌}
-use native.Mathlib.Omega.{arith}
-use native.Mathlib.Numerals.{add-one}
-use lib.ListN.{length, get_or, set, take, drop, replicate, length-set, drop_of_length-le}
-use lib.Seq.{get_or-set_other, take-set-le, take-suc-set, length-take-le}
-use lib.Dec.{eqb}
-use borrow.Author.Rules.{rules}
-use borrow.Author.Tests.{eqb-true, eqb-false}
-use Rattle.column.specs.Edits.{keep_by, kept_by}
-use Rattle.column.proofs.Laws.{keep_one, keep_none}
-use Rattle.column.proofs.places_on.Reads as places-on-reads
+use mathlib.Core.Path.{◌≡◌}
+use mathlib.Core.List.{List, ◌++◌}
+use Prim.Native.Nat.{ℕ, ◌-◌, ◌≤◌}
+use lib.ListN.{length, get_or, take, drop}
+use Rattle.column.specs.Edits.{keep_by}
 use Rattle.column.proofs.keep_unmarked.Given as goal
 
 pub record Inv (l ms col : List ℕ) (i j : ℕ) : Type 0 where

@@ -1,11 +1,10 @@
 -- `column::remove_first` meets its contract. The loop's invariant: the column has the result's first i words, and then its own. Assumes nothing.
 use mathlib.Core.Path.{◌≡◌, refl, sym, ap, ◌∙◌}
-use mathlib.Core.List.{List, [], ◌∷◌, ◌++◌}
-use Prim.Native.Nat.{ℕ, suc, ◌+◌, ◌-◌, ◌≤◌, ◌<◌}
+use mathlib.Core.List.{List}
+use Prim.Native.Nat.{ℕ, suc, ◌+◌, ◌≤◌, ◌<◌}
 use native.Mathlib.Omega.{arith}
 use native.Mathlib.Numerals.{add-one}
 use lib.ListN.{length, get_or, set, length-set, get_or-eq_default}
-use Rattle.column.specs.Edits.{remove_at}
 use Rattle.column.proofs.Laws.{over, over_start, over_step, over_read, over_done, length_removed, get_or_removed}
 use Rattle.column.proofs.remove_first.Invariants.{T, Inv}
 use Rattle.column.proofs.remove_first.Goals as goal

@@ -1,5 +1,4 @@
 -- `cooling::cools` meets its contract. Assumes nothing.
-use borrow.Author.Rules.{rules}
 use Rattle.model.specs.Cooling.{cools}
 use Rattle.laws.specs.Numbers.{present_none, present_some}
 use Rattle.cooling.proofs.cools.Goals as goal

@@ -1,11 +1,11 @@
 -- `cooling::drop_cooled` meets its contract. At the loop's head the first i stored times are mapped. Assumes nothing.
 use mathlib.Core.Path.{◌≡◌, refl, ap, ◌∙◌}
-use Prim.Native.Nat.{ℕ, ◌-◌}
+use Prim.Native.Nat.{ℕ}
 use native.Mathlib.Omega.{arith}
 use native.Mathlib.Numerals.{add-one}
 use mathlib.Core.List.{List}
-use lib.ListN.{length, get_or, set, length-set}
-use Rattle.cooling.specs.InPlace.{kept, mapped, mapped_read, mapped_step, mapped_done}
+use lib.ListN.{get_or, set, length-set}
+use Rattle.cooling.specs.InPlace.{kept, mapped_read, mapped_step, mapped_done}
 use Rattle.cooling.proofs.drop_cooled.Goals as goal
 
 pub loop-i-init : goal.loop-i-init

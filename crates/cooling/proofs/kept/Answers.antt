@@ -1,6 +1,5 @@
 -- `cooling::kept` meets its contract. Assumes nothing.
 use mathlib.Core.Path.{sym, ◌∙◌}
-use borrow.Author.Rules.{rules}
 use Rattle.cooling.proofs.kept.Goals as goal
 
 pub returns-then-cools : goal.returns-then-cools

@@ -4,7 +4,6 @@ use Prim.Native.Nat.{ℕ, suc}
 use native.Mathlib.Numerals.{add-one}
 use mathlib.Core.List.{List}
 use lib.ListN.{set}
-use borrow.Author.Rules.{rules}
 use Rattle.model.specs.Cooling.{cooling_noted}
 use Rattle.cooling.proofs.mark_unresponsive.Goals as goal
 

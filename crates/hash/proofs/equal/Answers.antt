@@ -1,5 +1,4 @@
 -- `hash::equal` meets its contract: it is `equal_words` of the words. Assumes nothing.
-use borrow.Author.Rules.{rules}
 use Rattle.hash.proofs.equal.Goals as goal
 
 pub returns : goal.returns

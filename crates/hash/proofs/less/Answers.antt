@@ -1,5 +1,4 @@
 -- `hash::less` meets its contract: it is `less_words` of the words. Assumes nothing.
-use borrow.Author.Rules.{rules}
 use Rattle.hash.proofs.less.Goals as goal
 
 pub returns : goal.returns

@@ -1,6 +1,5 @@
 -- `hash::same_both` meets its contract. Assumes nothing.
 use borrow.Author.Tests.{eq-eqb, ne_eqb}
-use borrow.Author.Rules.{rules}
 use Rattle.hash.proofs.same_both.Goals as goal
 
 pub returns-then-a-b : goal.returns-then-a-b

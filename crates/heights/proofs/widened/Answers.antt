@@ -1,5 +1,4 @@
 -- `heights::widened` meets its contract. Assumes nothing.
-use borrow.Author.Rules.{rules}
 use native.Mathlib.Omega.{arith}
 use Rattle.heights.proofs.widened.Goals as goal
 

@@ -1,7 +1,6 @@
 -- `layout::load_attempted` meets its contract. Assumes nothing.
 use mathlib.Core.Path.{ap, ◌∙◌}
 use Rattle.model.specs.Layout.{source_of}
-use borrow.Author.Rules.{rules}
 use Rattle.layout.proofs.load_attempted.Goals as goal
 
 pub returns : goal.returns

@@ -4,7 +4,6 @@ use Prim.Native.Nat.{ℕ, zero, suc, ◌-◌}
 use native.Mathlib.Omega.{arith}
 use Rattle.model.specs.Layout.{source_of}
 use Rattle.model.specs.declared.Source.TheVariants.{From}
-use borrow.Author.Rules.{rules}
 use Rattle.layout.proofs.source_of.Goals as goal
 
 source_some : (s : ℕ) → (s ≡ 0 → ⊥) → From (s - 1) ≡ source_of s

@@ -5,7 +5,6 @@ use native.Mathlib.Omega.{arith}
 use native.Mathlib.Numerals.{add-one}
 use Rattle.model.specs.Layout.{source_word}
 use Rattle.model.specs.declared.Source.{Source}
-use borrow.Author.Rules.{rules}
 use Rattle.layout.proofs.source_word.Goals as goal
 
 pub overflow_add-result : goal.overflow_add-result

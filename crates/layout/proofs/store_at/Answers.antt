@@ -6,7 +6,6 @@ use native.Mathlib.Omega.{arith}
 use lib.ListN.{length}
 use Rattle.model.specs.Layout.{decode}
 use Rattle.laws.specs.Tables.{with_words, decode_words}
-use borrow.Author.Rules.{rules}
 use Rattle.layout.proofs.store_at.Goals as goal
 
 pub overflow_add-a : goal.overflow_add-a

@@ -6,7 +6,6 @@ use Prim.Native.Nat.{ℕ}
 use Rattle.model.specs.Layout.{decode}
 use Rattle.laws.specs.Tables.{with_words}
 use Rattle.layout.specs.Head.{fanout_list}
-use borrow.Author.Rules.{rules}
 use Rattle.layout.proofs.store_fanout.Goals as goal
 
 pub slice_bounds-store_at-end : goal.slice_bounds-store_at-end

@@ -4,7 +4,6 @@ use mathlib.Core.List.{[], ◌∷◌}
 use Prim.Native.Nat.{ℕ}
 use Rattle.model.specs.Layout.{decode}
 use Rattle.laws.specs.Tables.{with_words}
-use borrow.Author.Rules.{rules}
 use Rattle.layout.proofs.store_preferred.Goals as goal
 
 pub returns : goal.returns

@@ -5,7 +5,6 @@ use mathlib.Core.List.{List}
 use Prim.Native.Nat.{ℕ}
 use Rattle.model.specs.Layout.{decode}
 use Rattle.laws.specs.Tables.{with_words}
-use borrow.Author.Rules.{rules}
 use Rattle.layout.proofs.store_settings.Goals as goal
 
 pub slice_bounds-store_at-end : goal.slice_bounds-store_at-end

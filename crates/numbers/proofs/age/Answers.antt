@@ -1,6 +1,5 @@
 -- `numbers::age` meets its contract. Assumes nothing.
 use mathlib.Core.Path.{◌∙◌, sym}
-use borrow.Author.Rules.{rules}
 use Rattle.laws.specs.Numbers.{age_is}
 use Rattle.numbers.proofs.age.Goals as goal
 

@@ -3,7 +3,6 @@ use mathlib.Core.Path.{sym, ap, ◌∙◌}
 use native.Mathlib.Omega.{arith}
 use native.Mathlib.Nat.{div-le_self}
 use Prim.Native.Nat.{ℕ, ◌-◌}
-use borrow.Author.Rules.{rules}
 use Rattle.model.specs.Numbers.{div_ceil}
 use Rattle.laws.specs.Numbers.{div_ceil_zero, div_ceil_pos}
 use Rattle.numbers.proofs.div_ceil.Goals as goal

@@ -1,6 +1,5 @@
 -- `numbers::next_height` meets its contract. Assumes nothing.
 use native.Mathlib.Numerals.{add-one}
-use borrow.Author.Rules.{rules}
 use Rattle.model.specs.Numbers.{next_height}
 use Rattle.numbers.proofs.next_height.Goals as goal
 

@@ -1,5 +1,4 @@
 -- `pace::decay_floor` meets its contract. Assumes nothing.
-use borrow.Author.Rules.{rules}
 use Rattle.model.specs.Pace.{decay_floor}
 use Rattle.pace.proofs.decay_floor.Goals as goal
 

@@ -1,5 +1,4 @@
 -- `pace::decayed` meets its contract. Assumes nothing.
-use borrow.Author.Rules.{rules}
 use Rattle.model.specs.Pace.{decayed}
 use Rattle.pace.proofs.decayed.Goals as goal
 

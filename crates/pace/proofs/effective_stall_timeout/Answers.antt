@@ -1,5 +1,4 @@
 -- `pace::effective_stall_timeout` meets its contract. Assumes nothing.
-use borrow.Author.Rules.{rules}
 use Rattle.model.specs.Pace.{effective_stall_timeout}
 use Rattle.pace.proofs.effective_stall_timeout.Goals as goal
 

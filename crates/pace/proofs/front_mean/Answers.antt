@@ -1,7 +1,6 @@
 -- `pace::front_mean` meets its contract. Assumes nothing.
 use mathlib.Core.Path.{ap, sym, ◌∙◌}
 use native.Mathlib.Omega.{arith}
-use borrow.Author.Rules.{rules}
 use Rattle.model.specs.Pace.{front_mean_by}
 use Rattle.laws.specs.PaceKept.{sample_le}
 use Rattle.pace.specs.Stored.{front_mean_some}

@@ -4,7 +4,6 @@ use Prim.Native.Nat.{ℕ, ◌+◌, ◌-◌}
 use native.Mathlib.Omega.{arith}
 use native.Mathlib.Numerals.{add-one}
 use borrow.Author.Tests.{lt-ltb, le-ltb}
-use borrow.Author.Rules.{rules}
 use Rattle.model.specs.Numbers.{max_front_mean}
 use Rattle.model.specs.Pace.{front_mean_by}
 use Rattle.laws.specs.PaceKept.{nearer_le}

@@ -1,7 +1,6 @@
 -- `pace::front_recorded` meets its contract. Assumes nothing.
 use native.Mathlib.Omega.{arith}
 use native.Mathlib.Numerals.{add-one}
-use borrow.Author.Rules.{rules}
 use Rattle.model.specs.Pace.{front_recorded}
 use Rattle.laws.specs.PaceKept.{front_mean_le}
 use Rattle.pace.proofs.front_recorded.Goals as goal

@@ -1,6 +1,5 @@
 -- `pace::nearer` meets its contract. Assumes nothing.
 use borrow.Author.Tests.{le-leb, lt-leb}
-use borrow.Author.Rules.{rules}
 use Rattle.model.specs.Pace.{nearer}
 use Rattle.pace.proofs.nearer.Goals as goal
 

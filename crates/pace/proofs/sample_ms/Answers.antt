@@ -1,7 +1,6 @@
 -- `pace::sample_ms` meets its contract. Assumes nothing.
 use mathlib.Core.Path.{ap}
 use Prim.Native.Nat.{ℕ, ◌/◌}
-use borrow.Author.Rules.{rules}
 use Rattle.model.specs.Pace.{sample_ms}
 use Rattle.pace.proofs.sample_ms.Goals as goal
 

@@ -1,5 +1,4 @@
 -- `pace::stall_decay_floor` meets its contract. Assumes nothing.
-use borrow.Author.Rules.{rules}
 use Rattle.model.specs.Pace.{stall_decay_floor}
 use Rattle.pace.proofs.stall_decay_floor.Goals as goal
 

@@ -1,6 +1,5 @@
 -- `pace::twice_ns` meets its contract. Assumes nothing.
 use mathlib.Core.Path.{sym}
-use borrow.Author.Rules.{rules}
 use Rattle.pace.specs.Stored.{twice_ns_some}
 use Rattle.pace.proofs.twice_ns.Goals as goal
 

@@ -1,6 +1,5 @@
 -- `pace::wait_widened` meets its contract. Assumes nothing.
 use native.Mathlib.Omega.{arith}
-use borrow.Author.Rules.{rules}
 use Rattle.model.specs.Numbers.{max_duration}
 use Rattle.model.specs.Pace.{wait_widened}
 use Rattle.pace.specs.Stored.{effective_stall_timeout_le}

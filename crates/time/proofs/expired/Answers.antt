@@ -1,5 +1,4 @@
 -- `time::expired` meets its contract. Assumes nothing.
-use borrow.Author.Rules.{rules}
 use Rattle.model.specs.Time.{expired}
 use Rattle.laws.specs.Numbers.{present_none, present_some}
 use Rattle.time.proofs.expired.Goals as goal

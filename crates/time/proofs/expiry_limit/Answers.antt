@@ -1,6 +1,5 @@
 -- `time::expiry_limit` meets its contract. Assumes nothing.
 use native.Mathlib.Omega.{arith}
-use borrow.Author.Rules.{rules}
 use borrow.Author.Tests.{eq-eqb, ne_eqb}
 use Rattle.time.specs.Limit.{expiry_limit}
 use Rattle.time.proofs.expiry_limit.Goals as goal

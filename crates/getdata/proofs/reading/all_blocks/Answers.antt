@@ -1,11 +1,7 @@
 -- `getdata::reading::all_blocks` meets its contract: at the loop's head i entries are looked at. Assumes nothing.
-use mathlib.Core.Path.{◌≡◌, sym, ◌∙◌}
-use Prim.Native.Nat.{◌*◌, ◌-◌, ◌≤◌}
+use mathlib.Core.Path.{sym, ◌∙◌}
+use Prim.Native.Nat.{◌*◌}
 use native.Mathlib.Omega.{arith}
-use lib.ListN.{drop}
-use borrow.Author.Rules.{rules}
-use borrow.Author.Tests.{not-true, not-false}
-use Rattle.model.specs.Getdata.{all_blocks}
 use Rattle.getdata.proofs.Reader.{rest_of, blocks_start, blocks_on, blocks_off, blocks_end}
 use Rattle.getdata.proofs.reading.all_blocks.Goals as goal
 

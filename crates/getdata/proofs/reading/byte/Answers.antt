@@ -1,7 +1,6 @@
 -- `getdata::reading::byte` meets its contract. Assumes nothing.
 use mathlib.Core.Path.{refl}
 use native.Mathlib.Omega.{arith}
-use borrow.Author.Rules.{rules}
 use Rattle.getdata.proofs.reading.byte.Goals as goal
 
 pub overflow_cast-result : goal.overflow_cast-result

@@ -1,6 +1,5 @@
 -- `getdata::reading::count_of` meets its contract. Assumes nothing.
 use native.Mathlib.Omega.{arith}
-use borrow.Author.Rules.{rules}
 use Rattle.getdata.proofs.Reader.{count_two, count_one}
 use Rattle.getdata.proofs.reading.count_of.Goals as goal
 

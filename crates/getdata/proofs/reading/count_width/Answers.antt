@@ -1,6 +1,5 @@
 -- `getdata::reading::count_width` meets its contract. Assumes nothing.
 use native.Mathlib.Omega.{arith}
-use borrow.Author.Rules.{rules}
 use Rattle.getdata.proofs.Reader.{width_two, width_one}
 use Rattle.getdata.proofs.reading.count_width.Goals as goal
 

@@ -1,5 +1,4 @@
 -- `getdata::reading::is_block` meets its contract. Assumes nothing.
-use borrow.Author.Rules.{rules}
 use Rattle.getdata.proofs.Reader.{type_is}
 use Rattle.getdata.proofs.reading.is_block.Goals as goal
 

@@ -3,7 +3,6 @@ use mathlib.Core.Path.{◌≡◌}
 use Prim.Native.Nat.{◌+◌, ◌*◌}
 use native.Mathlib.Omega.{arith}
 use lib.ListN.{length}
-use borrow.Author.Rules.{rules}
 use Rattle.getdata.proofs.Reader.{told_true, told_false, rest_of, not_shortest, above_256, not_long, long}
 use Rattle.getdata.proofs.reading.is_getdata.Goals as goal
 

@@ -1,5 +1,4 @@
 -- `getdata::reading::is_shortest` meets its contract. Assumes nothing.
-use borrow.Author.Rules.{rules}
 use Rattle.getdata.proofs.Reader.{shortest_two, shortest_one}
 use Rattle.getdata.proofs.reading.is_shortest.Goals as goal
 

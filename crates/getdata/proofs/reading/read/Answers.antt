@@ -4,7 +4,6 @@ use Prim.Native.Nat.{◌*◌}
 use native.Mathlib.Omega.{arith}
 use lib.ListN.{length-take, length-drop}
 use lib.Seq.{length-take-le}
-use borrow.Author.Rules.{rules}
 use Rattle.getdata.specs.Bytes.{accepted_parts}
 use Rattle.getdata.proofs.Reader.{rest_of, told_true, told_false, answer_11, left_11, answer_10, left_10, answer_0, left_0}
 use Rattle.getdata.proofs.reading.read.Goals as goal

@@ -1,12 +1,8 @@
 -- `getdata::reading::read_entries` meets its contract: at the loop's head i hashes are read. Assumes nothing.
-use mathlib.Core.Path.{◌≡◌, refl, sym, ◌∙◌}
-use mathlib.Core.List.{◌++◌}
-use Prim.Native.Nat.{◌+◌, ◌*◌, ◌-◌, ◌≤◌}
+use mathlib.Core.Path.{refl, sym, ◌∙◌}
+use Prim.Native.Nat.{◌+◌, ◌*◌, ◌-◌}
 use native.Mathlib.Omega.{arith}
-use lib.ListN.{length, take, drop}
 use borrow.Author.Rules.{rules}
-use Rattle.model.specs.Hash.{hashes_words}
-use Rattle.model.specs.Getdata.{entry_hashes}
 use Rattle.getdata.proofs.Reader.{rest_of, words_start, words_on, words_end}
 use Rattle.getdata.proofs.reading.read_entries.Goals as goal
 

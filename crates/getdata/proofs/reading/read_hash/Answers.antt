@@ -1,7 +1,5 @@
 -- `getdata::reading::read_hash` meets its contract. Assumes nothing.
 use native.Mathlib.Omega.{arith}
-use lib.ListN.{length-set}
-use borrow.Author.Rules.{rules}
 use Rattle.getdata.proofs.Reader.{hash_is}
 use Rattle.getdata.proofs.reading.read_hash.Goals as goal
 

@@ -1,11 +1,7 @@
 -- `getdata::reading::word` meets its contract: at the loop's head i bytes are read. Assumes nothing.
-use mathlib.Core.Path.{◌≡◌, refl, sym, ◌∙◌}
-use Prim.Native.Nat.{◌-◌, ◌^◌, ◌≤◌, ◌<◌}
+use mathlib.Core.Path.{refl, sym, ◌∙◌}
 use native.Mathlib.Numerals.{add-one}
 use native.Mathlib.Omega.{arith}
-use lib.ListN.{drop}
-use borrow.Author.Rules.{rules}
-use Rattle.model.specs.Getdata.{from_big_endian}
 use Rattle.getdata.proofs.Both.{room, one_more}
 use Rattle.getdata.proofs.Reader.{from_next, from_end}
 use Rattle.getdata.proofs.reading.word.Goals as goal

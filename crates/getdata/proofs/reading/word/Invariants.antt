@@ -1,13 +1,8 @@
 -- `getdata::reading::word` meets its contract: at the loop's head i bytes are read. Assumes nothing.
-use mathlib.Core.Path.{◌≡◌, refl, sym, ◌∙◌}
+use mathlib.Core.Path.{◌≡◌}
 use Prim.Native.Nat.{◌-◌, ◌^◌, ◌≤◌, ◌<◌}
-use native.Mathlib.Numerals.{add-one}
-use native.Mathlib.Omega.{arith}
 use lib.ListN.{drop}
-use borrow.Author.Rules.{rules}
 use Rattle.model.specs.Getdata.{from_big_endian}
-use Rattle.getdata.proofs.Both.{room, one_more}
-use Rattle.getdata.proofs.Reader.{from_next, from_end}
 use Rattle.getdata.proofs.reading.word.Given as goal
 
 abbrev pub invariant-loop-i : goal.invariant-loop-i

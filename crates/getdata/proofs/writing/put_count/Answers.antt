@@ -5,7 +5,6 @@ use native.Mathlib.Omega.{arith}
 use mathlib.Core.List.{List, ◌∷◌}
 use lib.ListN.{length, take, drop, set, length-set, length-drop}
 use lib.Seq.{length-take-le}
-use borrow.Author.Rules.{rules}
 use Rattle.model.specs.Getdata.{little_endian, compact_size}
 use Rattle.getdata.specs.Bytes.{size_one, size_three, length_little_endian, length_count}
 use Rattle.getdata.proofs.Written.{all_of_one, first_and_rest}

@@ -1,13 +1,11 @@
 -- `getdata::writing::put_entries` meets its contract: at the loop's head the first i entries are written, and those of the words from 4 * i on are left.
 -- Assumes nothing.
 use mathlib.Core.Path.{◌≡◌, refl, sym, ap, ◌∙◌}
-use mathlib.Core.List.{List, ◌++◌}
-use Prim.Native.Nat.{ℕ, ◌+◌, ◌-◌, ◌*◌, ◌/◌, ◌≤◌}
+use mathlib.Core.List.{List}
+use Prim.Native.Nat.{ℕ, ◌+◌, ◌-◌, ◌*◌, ◌/◌}
 use native.Mathlib.Omega.{arith}
-use borrow.Author.Rules.{rules}
-use lib.ListN.{length, take, drop}
+use lib.ListN.{length}
 use Rattle.model.specs.Hash.{hashes_in}
-use Rattle.model.specs.Getdata.{entries_bytes}
 use Rattle.getdata.proofs.Written.{hash_count, entries_next, entries_done}
 use Rattle.getdata.proofs.writing.put_entries.Goals as goal
 

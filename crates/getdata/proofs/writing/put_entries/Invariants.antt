@@ -1,14 +1,11 @@
 -- `getdata::writing::put_entries` meets its contract: at the loop's head the first i entries are written, and those of the words from 4 * i on are left.
 -- Assumes nothing.
-use mathlib.Core.Path.{◌≡◌, refl, sym, ap, ◌∙◌}
-use mathlib.Core.List.{List, ◌++◌}
-use Prim.Native.Nat.{ℕ, ◌+◌, ◌-◌, ◌*◌, ◌/◌, ◌≤◌}
-use native.Mathlib.Omega.{arith}
-use borrow.Author.Rules.{rules}
+use mathlib.Core.Path.{◌≡◌}
+use mathlib.Core.List.{◌++◌}
+use Prim.Native.Nat.{◌-◌, ◌*◌, ◌/◌, ◌≤◌}
 use lib.ListN.{length, take, drop}
 use Rattle.model.specs.Hash.{hashes_in}
 use Rattle.model.specs.Getdata.{entries_bytes}
-use Rattle.getdata.proofs.Written.{hash_count, entries_next, entries_done}
 use Rattle.getdata.proofs.writing.put_entries.Given as goal
 
 abbrev pub invariant-loop-i : goal.invariant-loop-i

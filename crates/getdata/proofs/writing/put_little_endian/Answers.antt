@@ -1,11 +1,8 @@
 -- `getdata::writing::put_little_endian` meets its contract: at the loop's head the first i bytes are written, and the others are those of the rest. Assumes
 -- nothing.
-use mathlib.Core.Path.{◌≡◌, refl, sym, ◌∙◌}
-use mathlib.Core.List.{◌++◌}
-use Prim.Native.Nat.{◌-◌, ◌≤◌}
+use mathlib.Core.Path.{refl, sym, ◌∙◌}
 use native.Mathlib.Omega.{arith}
-use lib.ListN.{length, take, length-set}
-use Rattle.model.specs.Getdata.{little_endian}
+use lib.ListN.{length, length-set}
 use Rattle.getdata.proofs.Written.{store_start, store_next, store_end}
 use Rattle.getdata.proofs.writing.put_little_endian.Goals as goal
 

@@ -1,12 +1,10 @@
 -- `getdata::writing::put_little_endian` meets its contract: at the loop's head the first i bytes are written, and the others are those of the rest. Assumes
 -- nothing.
-use mathlib.Core.Path.{◌≡◌, refl, sym, ◌∙◌}
+use mathlib.Core.Path.{◌≡◌}
 use mathlib.Core.List.{◌++◌}
 use Prim.Native.Nat.{◌-◌, ◌≤◌}
-use native.Mathlib.Omega.{arith}
-use lib.ListN.{length, take, length-set}
+use lib.ListN.{length, take}
 use Rattle.model.specs.Getdata.{little_endian}
-use Rattle.getdata.proofs.Written.{store_start, store_next, store_end}
 use Rattle.getdata.proofs.writing.put_little_endian.Given as goal
 
 abbrev pub invariant-loop-i : goal.invariant-loop-i

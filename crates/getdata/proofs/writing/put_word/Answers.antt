@@ -1,7 +1,6 @@
 -- `getdata::writing::put_word` meets its contract. Assumes nothing.
 use mathlib.Core.Path.{ap, ◌∙◌}
 use Prim.Native.Nat.{ℕ}
-use borrow.Author.Rules.{rules}
 use Rattle.model.specs.Getdata.{little_endian}
 use Rattle.getdata.proofs.writing.put_word.Goals as goal
 

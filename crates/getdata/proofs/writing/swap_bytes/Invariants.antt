@@ -1,13 +1,9 @@
 -- `getdata::writing::swap_bytes` meets its contract: at the loop's head the last i bytes of the word are r's, the low one first, and the others those of the
 -- rest. Assumes nothing.
-use mathlib.Core.Path.{◌≡◌, sym, ap, ◌∙◌}
-use mathlib.Core.List.{◌++◌, append-nil}
-use Prim.Native.Nat.{ℕ, suc, ◌-◌, ◌%◌, ◌^◌, ◌≤◌, ◌<◌}
-use native.Mathlib.Omega.{arith}
-use native.Mathlib.Numerals.{add-one}
+use mathlib.Core.Path.{◌≡◌}
+use mathlib.Core.List.{◌++◌}
+use Prim.Native.Nat.{◌-◌, ◌^◌, ◌≤◌, ◌<◌}
 use Rattle.model.specs.Getdata.{little_endian, big_endian}
-use Rattle.getdata.proofs.Both.{room, one_more}
-use Rattle.getdata.proofs.Written.{swap_next}
 use Rattle.getdata.proofs.writing.swap_bytes.Given as goal
 
 abbrev pub invariant-loop-i : goal.invariant-loop-i
