@@ -1,12 +1,9 @@
 -- `admission::alternates_ok` meets its contract. Assumes nothing.
 use mathlib.Core.Path.{◌≡◌}
 use Prim.Native.Nat.{◌≤◌, ◌-◌}
-use native.Mathlib.Omega.{arith}
 use lib.ListN.{length, drop}
 use Rattle.model.specs.Lists.{all}
 use Rattle.model.specs.Refusals.{seat_ok, alternates_ok}
-use Rattle.admission.specs.Alternates.{alternates_many, alternates_start, alternates_wrong, alternates_next, alternates_done}
-use borrow.Author.Rules.{rules}
 use Rattle.admission.proofs.alternates_ok.Given as goal
 
 abbrev pub invariant-loop-i : goal.invariant-loop-i

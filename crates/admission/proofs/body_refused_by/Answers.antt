@@ -2,7 +2,6 @@
 use mathlib.Core.Path.{◌∙◌}
 use mathlib.Core.Bool.{true}
 use native.Mathlib.Omega.{arith}
-use borrow.Author.Rules.{rules}
 use Rattle.model.specs.Layout.{window_of}
 use Rattle.model.specs.Refusals.{at, body_refusal}
 use Rattle.admission.specs.Content.{refused_before, refused_after, body_over, body_fits}

@@ -1,10 +1,6 @@
 -- `admission::keys_fit` meets its contract. Assumes nothing.
-use mathlib.Core.Path.{◌≡◌}
-use Prim.Native.Nat.{◌≤◌, ◌-◌}
+use Prim.Native.Nat.{◌-◌}
 use native.Mathlib.Omega.{arith}
-use lib.ListN.{drop}
-use Rattle.model.specs.Lists.{all}
-use Rattle.model.specs.Refusals.{seat_ok, keys_ok}
 use Rattle.admission.specs.Opening.{keys_few, keys_start, keys_wrong, keys_next, keys_done}
 use borrow.Author.Rules.{rules}
 use Rattle.admission.proofs.keys_fit.Goals as goal

@@ -2,10 +2,8 @@
 use mathlib.Core.Bool.{not}
 use Rattle.std.proofs.Common.{ap}
 use mathlib.Core.Path.{sym, ◌∙◌}
-use borrow.Author.Tests.{not-true, not-false}
 use Rattle.refusals.specs.Tests.{opening_1, opening_4, opening_5, opening_6, opening_0}
 use Rattle.admission.specs.Admits.{too_high, low_enough}
-use borrow.Author.Rules.{rules}
 use Rattle.admission.proofs.opening_refused_by.Goals as goal
 
 pub returns-then-words-ne-WORDS : goal.returns-then-words-ne-WORDS

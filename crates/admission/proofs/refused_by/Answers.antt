@@ -1,12 +1,10 @@
 -- `admission::refused_by` meets its contract. Assumes nothing.
 use mathlib.Core.Bool.{not}
 use Rattle.std.proofs.Common.{ap}
-use borrow.Author.Tests.{not-true, not-false}
 use mathlib.Core.Path.{refl}
 use Rattle.model.specs.Layout.{is_window}
 use Rattle.refusals.specs.Tests.{refused_1, refused_2, refused_6, by_content, report_none}
 use Rattle.admission.specs.Admits.{no_window, a_window}
-use borrow.Author.Rules.{rules}
 use Rattle.admission.proofs.refused_by.Goals as goal
 
 pub returns-then-words-ne-WORDS : goal.returns-then-words-ne-WORDS

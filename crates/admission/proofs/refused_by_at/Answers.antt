@@ -1,11 +1,9 @@
 -- `admission::refused_by_at` meets its contract. Assumes nothing.
 use mathlib.Core.Bool.{not}
 use Rattle.std.proofs.Common.{ap}
-use borrow.Author.Tests.{not-true, not-false}
 use Rattle.model.specs.Layout.{window_of}
 use Rattle.refusals.specs.Tests.{refused_1, refused_2, refused_4, refused_6, by_content, report_none}
 use Rattle.admission.specs.Admits.{no_window, a_window, not_now, in_time}
-use borrow.Author.Rules.{rules}
 use Rattle.admission.proofs.refused_by_at.Goals as goal
 
 pub returns-then-words-ne-WORDS : goal.returns-then-words-ne-WORDS

@@ -3,8 +3,6 @@ use mathlib.Core.Bool.{not}
 use Rattle.std.proofs.Common.{ap}
 use mathlib.Core.Path.{sym, ◌∙◌}
 use mathlib.Core.Bool.{true}
-use borrow.Author.Tests.{not-true, not-false}
-use borrow.Author.Rules.{rules}
 use Rattle.model.specs.Layout.{window_of}
 use Rattle.model.specs.Refusals.{Checks, at, checking, nothing}
 use Rattle.refusals.specs.Tests.{refused_4, refused_6, by_content}

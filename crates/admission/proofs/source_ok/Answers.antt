@@ -1,5 +1,4 @@
 -- `admission::source_ok` meets its contract. Assumes nothing.
-use borrow.Author.Rules.{rules}
 use Rattle.admission.proofs.source_ok.Goals as goal
 
 pub returns-in-From : goal.returns-in-From

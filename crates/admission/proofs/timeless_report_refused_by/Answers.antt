@@ -3,8 +3,6 @@ use mathlib.Core.Bool.{not}
 use Rattle.std.proofs.Common.{ap}
 use mathlib.Core.Path.{refl}
 use mathlib.Core.Bool.{true}
-use borrow.Author.Tests.{not-true, not-false}
-use borrow.Author.Rules.{rules}
 use Rattle.model.specs.Refusals.{Checks, timeless, checking, nothing}
 use Rattle.refusals.specs.Tests.{refused_1, refused_2, refused_3, refused_6, by_content, report_short, report_long}
 use Rattle.admission.specs.Admits.{no_window, a_window}

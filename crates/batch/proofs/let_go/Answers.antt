@@ -3,10 +3,6 @@ use Rattle.batch.specs.Extracts.{went_ranged, kept_ranged, none_reset, batch_hol
 use Rattle.laws.specs.Marks.{extract_by}
 use native.Mathlib.Omega.{arith}
 use borrow.Author.Rules.{rules}
-use Rattle.batch.proofs.let_go.Reads as reads
-use Rattle.batch.proofs.let_go.Lts as lts
-use Rattle.batch.proofs.reset_gone.Reads as reset-gone-reads
-use Rattle.batch.proofs.take_marked.Reads as take-marked-reads
 use Rattle.batch.proofs.let_go.Goals as goal
 
 -- nothing went

@@ -1,12 +1,6 @@
 -- `batch::reset_gone` meets its contract. Assumes nothing.
 use Rattle.report_words.specs.Report.{releases_of}
 use Rattle.batch.specs.Resets.{resets_hold}
-use borrow.Author.Rules.{rules}
-use Rattle.batch.proofs.reset_gone.Reads as reads
-use Rattle.batch.proofs.reset_gone.Lts as lts
-use Rattle.batch.proofs.oldest_left.Reads as oldest-left-reads
-use Rattle.batch.proofs.reset_all.Reads as reset-all-reads
-use Rattle.state_queue.proofs.pending_count.Reads as pending-count-reads
 use Rattle.batch.proofs.reset_gone.Goals as goal
 
 pub returns : goal.returns

@@ -1,21 +1,11 @@
 -- `batch::take_marked` meets its contract. Assumes nothing.
-use mathlib.Core.Path.{◌≡◌, ap, ◌∙◌}
-use Prim.Native.Nat.{ℕ, ◌-◌}
+use mathlib.Core.Path.{ap, ◌∙◌}
+use Prim.Native.Nat.{◌-◌}
 use Rattle.model.specs.LettingGo.{total_after, frontier_after}
 use Rattle.laws.specs.Marks.{extract_by}
 use Rattle.report_words.specs.Report.{releases_of}
 use Rattle.batch.specs.Extracts.{gone_is, none_holds, left_is, extract_holds}
-use borrow.Author.Rules.{rules}
 use native.Mathlib.Omega.{arith}
-use Rattle.batch.proofs.take_marked.Reads as reads
-use Rattle.batch.proofs.take_marked.Lts as lts
-use Rattle.report_words.proofs.gather.Reads as gather-reads
-use Rattle.report_words.proofs.totals_after.Reads as totals-after-reads
-use Rattle.state.proofs.get_frontier.Reads as get-frontier-reads
-use Rattle.state.proofs.get_total.Reads as get-total-reads
-use Rattle.state.proofs.set_frontier.Reads as set-frontier-reads
-use Rattle.state_queue.proofs.keep_entries.Reads as keep-entries-reads
-use Rattle.state_queue.proofs.pending_count.Reads as pending-count-reads
 use Rattle.batch.proofs.take_marked.Goals as goal
 
 -- nothing is marked

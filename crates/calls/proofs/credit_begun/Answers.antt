@@ -1,7 +1,6 @@
 -- `calls::credit_begun` meets its contract. Assumes nothing.
 use Rattle.model.specs.Calls.{credit_duplicate_delivery}
 use Rattle.rules.specs.Rows.{then}
-use borrow.Author.Rules.{rules}
 use Rattle.calls.proofs.credit_begun.Goals as goal
 
 pub returns : goal.returns

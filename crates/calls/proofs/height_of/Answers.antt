@@ -1,5 +1,4 @@
 -- `calls::height_of` meets its contract. Assumes nothing.
-use borrow.Author.Rules.{rules}
 use Rattle.calls.proofs.height_of.Goals as goal
 
 pub returns-in-At : goal.returns-in-At

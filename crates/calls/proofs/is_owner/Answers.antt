@@ -1,5 +1,4 @@
 -- `calls::is_owner` meets its contract. Assumes nothing.
-use borrow.Author.Rules.{rules}
 use Rattle.calls.proofs.is_owner.Goals as goal
 
 pub returns-in-At : goal.returns-in-At

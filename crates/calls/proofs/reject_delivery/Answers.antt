@@ -6,11 +6,8 @@ use Rattle.model.specs.Window.{Window}
 use Rattle.model.specs.LettingGo.{remove_pending}
 use Rattle.laws.specs.Sound.{Sound}
 use Rattle.laws.specs.Whole.{Holds, sound_rises}
-use Rattle.report_words.specs.Report.{releases_of}
 use Rattle.deliveries.specs.Steps.{cold_writes}
-use Rattle.rules.specs.Rows.{then}
 use Rattle.calls.specs.Rejects.{rejected_sound, rejects_owned, rejects_other}
-use borrow.Author.Rules.{rules}
 use Rattle.calls.proofs.reject_delivery.Goals as goal
 
 pub found-front-requires : goal.found-front-requires

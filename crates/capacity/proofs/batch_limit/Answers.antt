@@ -1,5 +1,4 @@
 -- `capacity::batch_limit` meets its contract. Assumes nothing.
-use borrow.Author.Rules.{rules}
 use Rattle.capacity.specs.OnNumbers.{batch_limit_by}
 use Rattle.capacity.proofs.batch_limit.Goals as goal
 

@@ -1,5 +1,4 @@
 -- `capacity::byte_capacity` meets its contract. Assumes nothing.
-use borrow.Author.Rules.{rules}
 use Rattle.capacity.specs.OnNumbers.{byte_capacity_by}
 use Rattle.capacity.proofs.byte_capacity.Goals as goal
 

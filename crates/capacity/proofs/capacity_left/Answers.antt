@@ -1,6 +1,5 @@
 -- `capacity::capacity_left` meets its contract. Assumes nothing.
 use mathlib.Core.Bool.{and-true}
-use borrow.Author.Rules.{rules}
 use Rattle.model.specs.Capacity.{capacity_left}
 use Rattle.model.specs.Lists.{every}
 use Rattle.capacity.proofs.capacity_left.Goals as goal

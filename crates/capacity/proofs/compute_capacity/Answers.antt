@@ -1,6 +1,5 @@
 -- `capacity::compute_capacity` meets its contract. Assumes nothing.
 use borrow.Author.Tests.{eq-eqb, ne_eqb, lt-ltb, le-ltb}
-use borrow.Author.Rules.{rules}
 use Rattle.capacity.specs.OnNumbers.{capacity_by}
 use Rattle.capacity.proofs.compute_capacity.Goals as goal
 

@@ -1,6 +1,5 @@
 -- `capacity::peer_inflight` meets its contract. Assumes nothing.
 use native.Mathlib.Omega.{arith}
-use borrow.Author.Rules.{rules}
 use Rattle.model.specs.Capacity.{peer_inflight}
 use Rattle.laws.specs.Numbers.{second_le_greater}
 use Rattle.capacity.proofs.peer_inflight.Goals as goal

@@ -1,14 +1,8 @@
 -- `check_head::any_bits` meets its contract: the OR of the words passed is 0 exactly when all of them are. Assumes nothing.
-use native.Mathlib.Omega.{arith}
-use mathlib.Core.Path.{◌≡◌, sym, ap, ◌∙◌}
-use mathlib.Core.Bool.{Bool, ◌&&◌}
-use Prim.Native.Nat.{◌≤◌, ◌-◌, ◌+◌}
-use lib.ListN.{get_or}
+use mathlib.Core.Path.{◌≡◌}
+use Prim.Native.Nat.{◌≤◌, ◌-◌}
 use lib.Dec.{eqb}
 use Rattle.facts.specs.Words.{zeros}
-use Rattle.facts.specs.Head.{zeros_none, zeros_more}
-use Rattle.facts.specs.Bits.{or_zero}
-use borrow.Author.Rules.{rules}
 use Rattle.check_head.proofs.any_bits.Given as goal
 
 abbrev pub invariant-loop-k : goal.invariant-loop-k

@@ -2,7 +2,6 @@
 use mathlib.Core.Path.{◌∙◌}
 use Rattle.facts.specs.Head.{waiting_row, racing_row, cold_none, cold_waits, cold_races}
 use Rattle.facts.specs.Flags.{fold}
-use borrow.Author.Rules.{rules}
 use Rattle.check_head.proofs.cold.Goals as goal
 
 pub returns-then-tag-eq0 : goal.returns-then-tag-eq0

@@ -1,7 +1,6 @@
 -- `check_head::counts` meets its contract: the code is the row of tests. Assumes nothing.
 use Rattle.facts.specs.Head.{counts_row, counts_is}
 use Rattle.facts.specs.Flags.{fold}
-use borrow.Author.Rules.{rules}
 use Rattle.check_head.proofs.counts.Goals as goal
 
 pub returns : goal.returns

@@ -1,11 +1,9 @@
 -- `check_head::head` meets its contract: an exit where the first words do not fit; past it, they do. Assumes nothing.
 use mathlib.Core.Path.{◌≡◌, sym, ap, ◌∙◌}
 use mathlib.Core.Bool.{Bool, true, ◌&&◌}
-use borrow.Author.Tests.{not-true, not-false}
 use Rattle.model.specs.Layout.{decode, counts_ok}
 use Rattle.facts.specs.Words.{later_fits, head_fits}
 use Rattle.facts.specs.Head.{counts_clock}
-use borrow.Author.Rules.{rules}
 use Rattle.check_head.proofs.head.Goals.{Else-not-counts}
 use Rattle.check_head.proofs.head.Goals as goal
 

@@ -1,7 +1,6 @@
 -- `check_head::hedged` meets its contract: by the count. Assumes nothing.
 use mathlib.Core.Path.{◌∙◌}
 use Rattle.facts.specs.Head.{hedged_many, hedged_few}
-use borrow.Author.Rules.{rules}
 use Rattle.check_head.proofs.hedged.Goals as goal
 
 pub returns-then-n-gt-HEDGES : goal.returns-then-n-gt-HEDGES

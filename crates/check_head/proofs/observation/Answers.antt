@@ -1,7 +1,6 @@
 -- `check_head::observation` meets its contract: by its first word. Assumes nothing.
 use mathlib.Core.Path.{◌∙◌}
 use Rattle.facts.specs.Head.{observation_none, observation_some}
-use borrow.Author.Rules.{rules}
 use Rattle.check_head.proofs.observation.Goals as goal
 
 pub returns-then-tag-eq0 : goal.returns-then-tag-eq0

@@ -4,7 +4,6 @@ use mathlib.Core.Bool.{◌&&◌}
 use Rattle.facts.specs.Head.{stall_is, stuck_is}
 use Rattle.facts.specs.Words.{later, later_fits}
 use Rattle.facts.specs.Flags.{fold}
-use borrow.Author.Rules.{rules}
 use Rattle.check_head.proofs.parts.Goals as goal
 
 pub returns : goal.returns

@@ -2,7 +2,6 @@
 use mathlib.Core.Path.{◌∙◌}
 use Rattle.facts.specs.Head.{probe_none, probe_many, probe_some}
 use Rattle.facts.specs.Flags.{fold}
-use borrow.Author.Rules.{rules}
 use Rattle.check_head.proofs.probe.Goals as goal
 
 pub returns-then-since-eq0 : goal.returns-then-since-eq0

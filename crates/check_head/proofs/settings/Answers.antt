@@ -1,7 +1,6 @@
 -- `check_head::settings` meets its contract: the code is the row of tests. Assumes nothing.
 use Rattle.facts.specs.Head.{settings_row, settings_is}
 use Rattle.facts.specs.Flags.{fold}
-use borrow.Author.Rules.{rules}
 use Rattle.check_head.proofs.settings.Goals as goal
 
 pub returns : goal.returns

@@ -2,7 +2,6 @@
 use borrow.Author.Tests.{eq-eqb, ne_eqb}
 use Rattle.facts.specs.Flags.{fold}
 use Rattle.facts.specs.Words.{since_fits}
-use borrow.Author.Rules.{rules}
 use Rattle.check_head.proofs.since.Goals as goal
 
 pub returns-then-t-eq0 : goal.returns-then-t-eq0

@@ -1,7 +1,6 @@
 -- `check_head::small` meets its contract: the code is the row of tests. Assumes nothing.
 use Rattle.facts.specs.Head.{small_row, small_is}
 use Rattle.facts.specs.Flags.{fold}
-use borrow.Author.Rules.{rules}
 use Rattle.check_head.proofs.small.Goals as goal
 
 pub returns : goal.returns

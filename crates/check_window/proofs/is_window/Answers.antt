@@ -1,6 +1,5 @@
 -- `check_window::is_window` meets its contract: each exit is a condition that fails; past it, it holds. Assumes nothing.
-use Rattle.std.proofs.Common.{◌≡◌, true, ◌&&◌, length, sym, ◌∙◌, rules, eq-eqb, ne_eqb}
-use borrow.Author.Tests.{not-true, not-false}
+use Rattle.std.proofs.Common.{◌≡◌, true, ◌&&◌, length, sym, ◌∙◌, eq-eqb, ne_eqb}
 use Rattle.facts.specs.Words.{head_fits, unused_zero, records_fit, total_fits, seats_fit, conditions, fits}
 use Rattle.facts.specs.Flags.{fold}
 use Rattle.facts.specs.Head.{head_count, head_clock}

@@ -1,5 +1,5 @@
 -- `check_window::over` meets its contract: the law on the top bit of x and of max - x. Assumes nothing.
-use Rattle.std.proofs.Common.{arith, rules}
+use Rattle.std.proofs.Common.{arith}
 use Rattle.facts.specs.Bits.{over_law}
 use Rattle.check_window.proofs.over.Goals as goal
 

@@ -1,5 +1,5 @@
 -- `check_window::place` meets its contract: an OR is 0 exactly when its parts are. Assumes nothing.
-use Rattle.std.proofs.Common.{◌+◌, get_or, rules}
+use Rattle.std.proofs.Common.{◌+◌, get_or}
 use Rattle.facts.specs.Flags.{fold}
 use Rattle.facts.specs.Bits.{or_zero8}
 use Rattle.facts.specs.Words.{blanks, blank_at, owner, time, height, estimate}

@@ -1,7 +1,6 @@
 -- `check_window::records` meets its contract: the records passed fit, the sum is theirs, and the table is `oldest_of` of them at every seat. Assumes nothing.
-use Rattle.std.proofs.Common.{◌≡◌, ℕ, ◌+◌, ◌-◌, ◌*◌, ◌<◌, ◌≤◌, Bool, true, false, ◌&&◌, eqb, List, length, get_or, set, sym, refl, ap, ◌∙◌, arith, length-set, rules, eq-eqb, ne_eqb}
+use Rattle.std.proofs.Common.{◌≡◌, ℕ, ◌+◌, ◌-◌, ◌<◌, Bool, true, false, ◌&&◌, eqb, List, get_or, set, sym, refl, ap, ◌∙◌, arith, length-set, eq-eqb, ne_eqb}
 use mathlib.Core.Bool.{and-false}
-use borrow.Author.Tests.{not-true, not-false}
 use Rattle.facts.specs.Words.{record_fits, records_fit, total_fits, seats_fit, sum_of, oldest_of, earlier, fields_fit, rises}
 use Rattle.facts.specs.Words.{count, owner, time, estimate, total}
 use Rattle.facts.specs.Flags.{all_below, all_none, all_more, all_fails}

@@ -1,12 +1,8 @@
 -- `check_window::records` meets its contract: the records passed fit, the sum is theirs, and the table is `oldest_of` of them at every seat. Assumes nothing.
-use Rattle.std.proofs.Common.{◌≡◌, ℕ, ◌+◌, ◌-◌, ◌*◌, ◌<◌, ◌≤◌, Bool, true, false, ◌&&◌, eqb, List, length, get_or, set, sym, refl, ap, ◌∙◌, arith, length-set, rules, eq-eqb, ne_eqb}
-use mathlib.Core.Bool.{and-false}
-use borrow.Author.Tests.{not-true, not-false}
-use Rattle.facts.specs.Words.{record_fits, records_fit, total_fits, seats_fit, sum_of, oldest_of, earlier, fields_fit, rises}
-use Rattle.facts.specs.Words.{count, owner, time, estimate, total}
-use Rattle.facts.specs.Flags.{all_below, all_none, all_more, all_fails}
-use Rattle.laws.specs.Numbers.{and_both}
-use Rattle.facts.specs.Oldest.{Known, known, table_start, table_step, oldest_le, sum_more}
+use Rattle.std.proofs.Common.{◌≡◌, ℕ, ◌-◌, ◌*◌, ◌≤◌, true, length, get_or}
+use Rattle.facts.specs.Words.{record_fits, sum_of, oldest_of}
+use Rattle.facts.specs.Words.{count}
+use Rattle.facts.specs.Flags.{all_below}
 use Rattle.check_window.proofs.records.Given as goal
 
 abbrev pub invariant-loop-i : goal.invariant-loop-i

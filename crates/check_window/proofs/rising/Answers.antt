@@ -1,5 +1,5 @@
 -- `check_window::rising` meets its contract: by whether it is the first record. Assumes nothing.
-use Rattle.std.proofs.Common.{rules, eq-eqb, ne_eqb}
+use Rattle.std.proofs.Common.{eq-eqb, ne_eqb}
 use Rattle.facts.specs.Words.{entry, rises}
 use Rattle.check_window.proofs.rising.Goals as goal
 

@@ -1,5 +1,5 @@
 -- `check_window::seat_top` meets its contract: an OR has no top bit exactly when its parts have none. Assumes nothing.
-use Rattle.std.proofs.Common.{◌&&◌, ◌∙◌, rules}
+use Rattle.std.proofs.Common.{◌&&◌, ◌∙◌}
 use Rattle.facts.specs.Bits.{or_top5}
 use Rattle.facts.specs.Words.{seat_by}
 use Rattle.check_window.proofs.seat_top.Goals as goal

@@ -1,6 +1,6 @@
 -- `check_window::seats` meets its contract: the OR of the seats passed has no top bit exactly when they fit. Assumes nothing.
-use Rattle.std.proofs.Common.{◌≡◌, ℕ, ◌+◌, ◌-◌, ◌^◌, ◌<◌, ◌≤◌, ◌&&◌, ltb, sym, refl, ap, ◌∙◌, arith, rules}
-use Rattle.facts.specs.Words.{at, start, body, seat_key, cooling, racer, clock, latest, most_raced, seat_by, seat_fits, seats_fit}
+use Rattle.std.proofs.Common.{◌≡◌, ℕ, ◌-◌, ◌^◌, ◌&&◌, ltb, sym, refl, ap, ◌∙◌, arith}
+use Rattle.facts.specs.Words.{start, body, seat_key, cooling, racer, latest, seat_by, seat_fits, seats_fit}
 use Rattle.facts.specs.Flags.{all_below, all_none, all_more}
 use Rattle.facts.specs.Bits.{or_top}
 use Rattle.check_window.proofs.seats.Goals as goal

@@ -1,8 +1,7 @@
 -- `check_window::seats` meets its contract: the OR of the seats passed has no top bit exactly when they fit. Assumes nothing.
-use Rattle.std.proofs.Common.{◌≡◌, ℕ, ◌+◌, ◌-◌, ◌^◌, ◌<◌, ◌≤◌, ◌&&◌, ltb, sym, refl, ap, ◌∙◌, arith, rules}
-use Rattle.facts.specs.Words.{at, start, body, seat_key, cooling, racer, clock, latest, most_raced, seat_by, seat_fits, seats_fit}
-use Rattle.facts.specs.Flags.{all_below, all_none, all_more}
-use Rattle.facts.specs.Bits.{or_top}
+use Rattle.std.proofs.Common.{◌≡◌, ◌+◌, ◌-◌, ◌^◌, ◌<◌, ◌≤◌, ltb}
+use Rattle.facts.specs.Words.{at, clock, latest, most_raced, seat_fits}
+use Rattle.facts.specs.Flags.{all_below}
 use Rattle.check_window.proofs.seats.Given as goal
 
 abbrev pub invariant-loop-s : goal.invariant-loop-s

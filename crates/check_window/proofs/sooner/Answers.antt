@@ -1,5 +1,5 @@
 -- `check_window::sooner` meets its contract: m - 1, wrapped, is above every time where m is none. Assumes nothing.
-use Rattle.std.proofs.Common.{arith, rules}
+use Rattle.std.proofs.Common.{arith}
 use Rattle.facts.specs.Bits.{sooner_new, sooner_old}
 use Rattle.check_window.proofs.sooner.Goals as goal
 

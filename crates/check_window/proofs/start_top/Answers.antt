@@ -1,5 +1,5 @@
 -- `check_window::start_top` meets its contract: the law on the four words. Assumes nothing.
-use Rattle.std.proofs.Common.{arith, rules}
+use Rattle.std.proofs.Common.{arith}
 use Rattle.facts.specs.Bits.{start_law}
 use Rattle.check_window.proofs.start_top.Goals as goal
 

@@ -1,5 +1,5 @@
 -- `check_window::tails` meets its contract: the OR of the places passed is 0 exactly when they are blank. Assumes nothing.
-use Rattle.std.proofs.Common.{◌≡◌, ◌+◌, ◌-◌, ◌≤◌, ◌&&◌, eqb, sym, refl, ◌∙◌, arith, rules}
+use Rattle.std.proofs.Common.{◌≡◌, ◌+◌, ◌-◌, ◌&&◌, sym, refl, ◌∙◌, arith}
 use Rattle.facts.specs.Words.{count, blank_at, tails_zero}
 use Rattle.facts.specs.Flags.{all_below, all_none, all_more}
 use Rattle.facts.specs.Bits.{or_zero}

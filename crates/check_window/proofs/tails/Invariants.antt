@@ -1,8 +1,7 @@
 -- `check_window::tails` meets its contract: the OR of the places passed is 0 exactly when they are blank. Assumes nothing.
-use Rattle.std.proofs.Common.{◌≡◌, ◌+◌, ◌-◌, ◌≤◌, ◌&&◌, eqb, sym, refl, ◌∙◌, arith, rules}
-use Rattle.facts.specs.Words.{count, blank_at, tails_zero}
-use Rattle.facts.specs.Flags.{all_below, all_none, all_more}
-use Rattle.facts.specs.Bits.{or_zero}
+use Rattle.std.proofs.Common.{◌≡◌, ◌+◌, ◌-◌, ◌≤◌, eqb}
+use Rattle.facts.specs.Words.{count, blank_at}
+use Rattle.facts.specs.Flags.{all_below}
 use Rattle.check_window.proofs.tails.Given as goal
 
 abbrev pub invariant-loop-k : goal.invariant-loop-k

@@ -1,5 +1,5 @@
 -- `check_window::unused` meets its contract: an OR is 0 exactly when its parts are. Assumes nothing.
-use Rattle.std.proofs.Common.{◌&&◌, ◌∙◌, rules}
+use Rattle.std.proofs.Common.{◌&&◌, ◌∙◌}
 use Rattle.facts.specs.Words.{unused_zero}
 use Rattle.facts.specs.Bits.{or_zero}
 use Rattle.check_window.proofs.unused.Goals as goal

@@ -7,7 +7,6 @@ use Rattle.model.specs.declared.ColdFront.{ColdFront}
 use Rattle.laws.specs.Whole.{Holds}
 use Rattle.states.specs.Fits.{cold_fits}
 use Rattle.cold_front.specs.Cold.{advance_fits}
-use borrow.Author.Rules.{rules}
 use Rattle.cold_front.proofs.advance_cold_front.Goals as goal
 
 pub set_cold-requires : goal.set_cold-requires

@@ -1,12 +1,10 @@
 -- `cold_front::confirm_cold_front_hedge` meets its contract. Assumes nothing.
-use borrow.Author.Tests.{not-true, not-false}
 use mathlib.Core.Path.{sym, ◌∙◌, subst}
 use Rattle.model.specs.Layout.{window_of}
 use Rattle.model.specs.Window.{Window, with_cold}
 use Rattle.model.specs.declared.ColdFront.TheVariants.{Racing}
 use Rattle.laws.specs.Whole.{Holds, holds_whole}
 use Rattle.cold_front.specs.Cold.{confirm_not, confirm_known, confirm_full, confirm_new}
-use borrow.Author.Rules.{rules}
 use Rattle.cold_front.proofs.confirm_cold_front_hedge.Goals as goal
 
 pub returns-then-not-waits_for : goal.returns-then-not-waits_for

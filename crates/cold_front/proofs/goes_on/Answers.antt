@@ -1,5 +1,4 @@
 use borrow.Author.Tests.{lt-leb, le-leb}
-use borrow.Author.Rules.{rules}
 use Rattle.cold_front.proofs.goes_on.Goals as goal
 
 -- src/lib.rt:96:9

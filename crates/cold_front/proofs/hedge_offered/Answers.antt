@@ -2,7 +2,6 @@
 use mathlib.Core.Path.{ap, ◌∙◌}
 use Rattle.model.specs.Races.{racing_with, hedge_offered}
 use Rattle.model.specs.declared.ColdFront.{ColdFront}
-use borrow.Author.Rules.{rules}
 use Rattle.cold_front.proofs.hedge_offered.Goals as goal
 
 pub returns : goal.returns

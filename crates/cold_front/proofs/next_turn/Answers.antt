@@ -2,7 +2,6 @@
 use mathlib.Core.Path.{sym, ◌∙◌}
 use Rattle.model.specs.Layout.{window_of}
 use Rattle.cold_front.specs.Cold.{turn_racing, turn_paced, turn_hedged, turn_none, turn_at}
-use borrow.Author.Rules.{rules}
 use Rattle.cold_front.proofs.next_turn.Goals as goal
 
 pub returns-then-is_racing : goal.returns-then-is_racing

@@ -1,5 +1,4 @@
 -- `cold_front::racing_with` meets its contract. Assumes nothing.
-use borrow.Author.Rules.{rules}
 use Rattle.cold_front.proofs.racing_with.Goals as goal
 
 pub returns-in-Racing : goal.returns-in-Racing

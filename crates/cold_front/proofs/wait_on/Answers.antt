@@ -1,6 +1,5 @@
 -- `cold_front::wait_on` meets its contract. Assumes nothing.
 use mathlib.Core.Path.{sym, ◌∙◌}
-use borrow.Author.Rules.{rules}
 use Rattle.cold_front.proofs.wait_on.Goals as goal
 
 pub returns-then-same_both : goal.returns-then-same_both

@@ -1,5 +1,4 @@
 -- `cold_front::waits_for` meets its contract. Assumes nothing.
-use borrow.Author.Rules.{rules}
 use Rattle.cold_front.proofs.waits_for.Goals as goal
 
 pub returns-in-Waiting : goal.returns-in-Waiting

@@ -1,6 +1,5 @@
 -- `deliveries::clear_preferred_peer` meets its contract. Assumes nothing.
 use Rattle.model.specs.Calls.{clear_preferred_peer}
-use borrow.Author.Rules.{rules}
 use Rattle.deliveries.proofs.clear_preferred_peer.Goals as goal
 
 pub returns : goal.returns

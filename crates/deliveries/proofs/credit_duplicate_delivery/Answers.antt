@@ -4,7 +4,6 @@ use Rattle.model.specs.Calls.{unless_observed, credit_duplicate_delivery}
 use Rattle.model.specs.Layout.{window_of}
 use Rattle.model.specs.Window.{with_observation}
 use Rattle.rules.specs.Rows.{by_value}
-use borrow.Author.Rules.{rules}
 use Rattle.deliveries.proofs.credit_duplicate_delivery.Goals as goal
 
 pub returns : goal.returns

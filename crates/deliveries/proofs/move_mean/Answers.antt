@@ -5,7 +5,6 @@ use Rattle.model.specs.Calls.{next_mean}
 use Rattle.model.specs.Layout.{window_of}
 use Rattle.model.specs.Window.{with_mean}
 use Rattle.rules.specs.Rows.{by_value}
-use borrow.Author.Rules.{rules}
 use Rattle.deliveries.proofs.move_mean.Goals as goal
 
 pub returns : goal.returns

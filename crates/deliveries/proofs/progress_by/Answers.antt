@@ -1,11 +1,5 @@
 -- `deliveries::progress_by` meets its contract. Assumes nothing.
-use mathlib.Core.Path.{sym, subst}
-use Rattle.model.specs.Calls.{progress_by}
-use Rattle.model.specs.Layout.{window_of}
-use Rattle.model.specs.Window.{Window}
-use Rattle.model.specs.declared.Height.{Height}
-use Rattle.laws.specs.Whole.{Holds, holds_whole}
-use borrow.Author.Rules.{rules}
+use Rattle.laws.specs.Whole.{holds_whole}
 use Rattle.deliveries.proofs.progress_by.Goals as goal
 
 pub returns-in-Unknown : goal.returns-in-Unknown

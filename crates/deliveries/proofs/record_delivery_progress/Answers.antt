@@ -9,7 +9,6 @@ use Rattle.model.specs.declared.Pace.{Pace}
 use Rattle.states.specs.Fits.{stall_fits}
 use Rattle.rules.specs.Rows.{then, by_value}
 use Rattle.deliveries.specs.Steps.{stall_writes, stalled_writes}
-use borrow.Author.Rules.{rules}
 use Rattle.deliveries.proofs.record_delivery_progress.Goals as goal
 
 pub changed-q-requires : goal.changed-q-requires

@@ -1,6 +1,5 @@
 -- `deliveries::rejected_by` meets its contract. Assumes nothing.
 use Rattle.laws.specs.Whole.{holds_whole}
-use borrow.Author.Rules.{rules}
 use Rattle.deliveries.proofs.rejected_by.Goals as goal
 
 pub returns-in-Missing : goal.returns-in-Missing

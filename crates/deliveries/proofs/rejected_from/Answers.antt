@@ -6,7 +6,6 @@ use Rattle.model.specs.Window.{with_cold}
 use Rattle.states.specs.Fits.{cold_fits}
 use Rattle.rules.specs.Rows.{then, by_value}
 use Rattle.deliveries.specs.Steps.{front_writes}
-use borrow.Author.Rules.{rules}
 use Rattle.deliveries.proofs.rejected_from.Goals as goal
 
 pub set_cold-requires : goal.set_cold-requires

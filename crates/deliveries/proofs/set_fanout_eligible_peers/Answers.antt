@@ -1,14 +1,11 @@
 -- `deliveries::set_fanout_eligible_peers` meets its contract. Assumes nothing.
-use mathlib.Core.Path.{◌≡◌, sym, ap, ◌∙◌}
-use mathlib.Core.Bool.{Bool, true, false, cond, not, ◌&&◌}
-use Prim.Native.Nat.{ℕ, suc}
-use lib.Dec.{leb, ltb}
-use Rattle.model.specs.Calls.{is_young, engages, set_fanout_eligible_peers}
+use mathlib.Core.Path.{sym, ◌∙◌}
+use mathlib.Core.Bool.{true, false}
+use Rattle.model.specs.Calls.{set_fanout_eligible_peers}
 use Rattle.model.specs.Layout.{window_of}
 use Rattle.model.specs.Window.{with_fanout, without_probe}
 use Rattle.rules.specs.Rows.{then, by_value}
 use Rattle.deliveries.specs.Steps.{engaged_so}
-use borrow.Author.Rules.{rules}
 use Rattle.deliveries.proofs.set_fanout_eligible_peers.Goals as goal
 
 pub returns-then-engaged : goal.returns-then-engaged

@@ -8,7 +8,6 @@ use Rattle.model.specs.declared.Source.{Source}
 use Rattle.laws.specs.Sound.{SoundSource}
 use Rattle.laws.specs.Whole.{Holds, holds_whole}
 use Rattle.report_words.specs.Report.{releases_of}
-use borrow.Author.Rules.{rules}
 use Rattle.delivery_calls.proofs.credit_by.Goals as goal
 
 pub credit_delivery_from-requires : goal.credit_delivery_from-requires

@@ -6,7 +6,6 @@ use Rattle.laws.specs.Sound.{Sound}
 use Rattle.laws.specs.Whole.{Holds}
 use Rattle.calls.specs.Credits.{begun_sound}
 use Rattle.delivery_calls.specs.Credits.{raced_sound, credit_window, credit_gone}
-use borrow.Author.Rules.{rules}
 use Rattle.delivery_calls.proofs.credit_delivery_from.Goals as goal
 
 pub credit_races-n-requires : goal.credit_races-n-requires

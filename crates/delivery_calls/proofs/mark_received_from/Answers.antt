@@ -7,7 +7,6 @@ use Rattle.model.specs.Layout.{window_of}
 use Rattle.model.specs.Window.{Window}
 use Rattle.laws.specs.Whole.{sound_rises}
 use Rattle.delivery_calls.specs.Receives.{ok_sound, taken_sound, receives}
-use borrow.Author.Rules.{rules}
 use Rattle.delivery_calls.proofs.mark_received_from.Goals as goal
 
 pub found-front-requires : goal.found-front-requires

@@ -5,7 +5,6 @@ use native.Mathlib.Omega.{arith}
 use lib.ListN.{length}
 use Rattle.model.specs.declared.Front.{Front}
 use Rattle.delivery_calls.specs.Receives.{delivered, delivered_alone, delivered_before}
-use borrow.Author.Rules.{rules}
 use Rattle.delivery_calls.proofs.put_delivered.Goals as goal
 
 pub returns-in_default : goal.returns-in_default

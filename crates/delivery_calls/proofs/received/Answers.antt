@@ -1,5 +1,4 @@
 -- `delivery_calls::received` meets its contract. Assumes nothing.
-use borrow.Author.Rules.{rules}
 use Rattle.delivery_calls.proofs.received.Goals as goal
 
 pub returns-in-Nothing : goal.returns-in-Nothing

@@ -1,7 +1,6 @@
 -- `demo::page` meets its contract. Assumes nothing.
 use native.Mathlib.Omega.{arith}
-use borrow.Author.Rules.{rules}
-use Prim.Native.Nat.{ℕ, ◌-◌}
+use Prim.Native.Nat.{◌-◌}
 use Rattle.demo.proofs.page.Goals as goal
 
 pub loop-k-init : goal.loop-k-init

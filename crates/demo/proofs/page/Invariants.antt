@@ -1,7 +1,5 @@
 -- `demo::page` meets its contract. Assumes nothing.
-use native.Mathlib.Omega.{arith}
-use borrow.Author.Rules.{rules}
-use Prim.Native.Nat.{ℕ, ◌-◌}
+use Prim.Native.Nat.{◌-◌}
 use Rattle.demo.proofs.page.Given as goal
 
 abbrev pub invariant-loop-k : goal.invariant-loop-k

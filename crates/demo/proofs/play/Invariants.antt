@@ -1,9 +1,7 @@
 -- `demo::play` meets its contract: each line ends behind its beginning, and in the text. Assumes nothing.
 use mathlib.Core.Path.{◌≡◌}
 use Prim.Native.Nat.{◌-◌}
-use native.Mathlib.Omega.{arith}
 use lib.ListN.{length}
-use borrow.Author.Rules.{rules}
 use Rattle.demo.proofs.play.Given as goal
 
 abbrev pub invariant-loop-at : goal.invariant-loop-at

@@ -1,7 +1,6 @@
 -- `demo::turn` meets its contract: as many words are lent as the list of staged hashes has. Assumes nothing.
 use mathlib.Core.Path.{sym}
 use lib.Seq.{length-take-le}
-use borrow.Author.Rules.{rules}
 use Rattle.demo.proofs.turn.Goals as goal
 
 pub slice_bounds-act-end : goal.slice_bounds-act-end

@@ -1,6 +1,5 @@
 -- `demo::verdict` meets its contract. Assumes nothing.
 use mathlib.Core.Path.{◌∙◌, ap}
-use borrow.Author.Rules.{rules}
 use Rattle.lines.specs.Words.{verdicts}
 use Rattle.demo.proofs.verdict.Goals as goal
 

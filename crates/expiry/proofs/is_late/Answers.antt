@@ -6,7 +6,6 @@ use lib.ListN.{get_or}
 use Rattle.model.specs.Time.{expired}
 use Rattle.model.specs.Layout.{decode}
 use Rattle.laws.specs.Rows.{word_at}
-use borrow.Author.Rules.{rules}
 use Rattle.expiry.proofs.is_late.Goals as goal
 
 pub returns : goal.returns

@@ -6,7 +6,6 @@ use Rattle.model.specs.declared.Front.TheVariants.{At}
 use Rattle.records.specs.Places.{front_at}
 use Rattle.state_queue.specs.Steps.{entry_is}
 use Rattle.expiry.specs.Late.{spacing_le, seated, expired_is}
-use borrow.Author.Rules.{rules}
 use Rattle.expiry.proofs.lowest_expired.Goals as goal
 
 pub owner_timeout-timeout-requires : goal.owner_timeout-timeout-requires

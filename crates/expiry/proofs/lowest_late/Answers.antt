@@ -13,12 +13,9 @@ use Rattle.model.specs.Layout.{entry_at, rows, decode}
 use Rattle.laws.specs.Numbers.{both}
 use Rattle.laws.specs.Rows.{rows_at, live_cons, live_end, word_at}
 use Rattle.model.specs.declared.Entry.{Entry}
-use Rattle.model.specs.declared.Front.{Front}
-use Rattle.model.specs.declared.Front.TheVariants.{At, Nothing}
+use Rattle.model.specs.declared.Front.TheVariants.{At}
 use Rattle.records.specs.Places.{front_at}
 use Rattle.expiry.specs.Late.{late}
-use Rattle.time.proofs.expiry_limit.Reads as expiry-limit-reads
-use Rattle.expiry.proofs.is_late.Reads as is-late-reads
 use Rattle.expiry.proofs.lowest_late.Invariants.{from, Lowest, none, some}
 use Rattle.expiry.proofs.lowest_late.Goals as goal
 

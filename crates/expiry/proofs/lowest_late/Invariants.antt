@@ -1,24 +1,16 @@
 -- `expiry::lowest_late` meets its contract: at the loop's head `best` is the place of the lowest late record from i on. Assumes nothing.
-use mathlib.Core.Path.{◌≡◌, refl, sym, ap, ◌∙◌}
-use mathlib.Core.Logic.{inl, inr}
-use mathlib.Core.Bool.{Bool, true, false}
+use mathlib.Core.Path.{◌≡◌}
+use mathlib.Core.Bool.{Bool}
 use mathlib.Core.List.{List}
-use Prim.Native.Nat.{ℕ, suc, ◌+◌, ◌-◌, ◌≤◌, ◌<◌}
-use native.Mathlib.Omega.{arith}
-use lib.ListN.{take, drop, get_or}
-use borrow.Author.Tests.{lt-ltb, le-ltb, le-leb, lt-leb}
+use Prim.Native.Nat.{ℕ, ◌-◌, ◌≤◌, ◌<◌}
+use lib.ListN.{take, drop}
 use Rattle.model.specs.Lists.{count, select}
-use Rattle.model.specs.Records.{lowest, lower}
+use Rattle.model.specs.Records.{lowest}
 use Rattle.model.specs.Layout.{entry_at, rows, decode}
-use Rattle.laws.specs.Numbers.{both}
-use Rattle.laws.specs.Rows.{rows_at, live_cons, live_end, word_at}
 use Rattle.model.specs.declared.Entry.{Entry}
 use Rattle.model.specs.declared.Front.{Front}
 use Rattle.model.specs.declared.Front.TheVariants.{At, Nothing}
-use Rattle.records.specs.Places.{front_at}
 use Rattle.expiry.specs.Late.{late}
-use Rattle.time.proofs.expiry_limit.Reads as expiry-limit-reads
-use Rattle.expiry.proofs.is_late.Reads as is-late-reads
 use Rattle.expiry.proofs.lowest_late.Given as goal
 
 -- the lowest from i on that p holds of

@@ -1,7 +1,6 @@
 -- `expiry::owner_expired` meets its contract. Assumes nothing.
 use mathlib.Core.Path.{◌∙◌}
 use Rattle.model.specs.Time.{expired, owner_download_expired}
-use borrow.Author.Rules.{rules}
 use Rattle.expiry.proofs.owner_expired.Goals as goal
 
 pub returns : goal.returns

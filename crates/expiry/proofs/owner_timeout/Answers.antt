@@ -2,7 +2,6 @@
 use mathlib.Core.Path.{◌∙◌}
 use Rattle.model.specs.Time.{owner_timeout, effective_owner_timeout}
 use Rattle.expiry.specs.Late.{active_le}
-use borrow.Author.Rules.{rules}
 use Rattle.expiry.proofs.owner_timeout.Goals as goal
 
 pub owner_timeout-requires : goal.owner_timeout-requires

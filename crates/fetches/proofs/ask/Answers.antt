@@ -8,7 +8,6 @@ use Rattle.rules.specs.Rows.{then, by_value}
 use Rattle.requests.specs.Puts.{Ready, ready_takes}
 use Rattle.requests.specs.Rows.{forgotten_same, closed, filled, requested_row}
 use Rattle.fetches.specs.Fetches.{source_writes, ask_of, asking_ready}
-use borrow.Author.Rules.{rules}
 use Rattle.fetches.proofs.ask.Goals as goal
 
 pub put_one-requires : goal.put_one-requires

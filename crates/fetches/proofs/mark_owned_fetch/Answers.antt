@@ -1,12 +1,11 @@
 -- `fetches::mark_owned_fetch` meets its contract. Assumes nothing.
 use mathlib.Core.Path.{refl, sym, subst, ◌∙◌}
-use Rattle.model.specs.Calls.{Fetching, held, staged, asked, no_capacity, owned_fetch}
+use Rattle.model.specs.Calls.{Fetching, held, staged, asked, no_capacity}
 use Rattle.model.specs.Layout.{window_of}
 use Rattle.model.specs.declared.Fetch.TheVariants as fetch
 use Rattle.laws.specs.RequestsKept.{AskingBy, asking_is}
 use Rattle.laws.specs.Whole.{holds_whole, sound_rises}
 use Rattle.fetches.specs.Fetches.{is_held, is_staged_there, is_asked, is_full, is_over, fetch_done, less_so, le_so}
-use borrow.Author.Rules.{rules}
 use Rattle.fetches.proofs.mark_owned_fetch.Goals as goal
 
 pub contains_pending-requires : goal.contains_pending-requires

@@ -1,7 +1,5 @@
 -- `flat::of_blocked` meets its contract. Assumes nothing.
 use mathlib.Core.Path.{refl}
-use borrow.Author.Rules.{rules}
-use Rattle.flat.proofs.decided.Reads as decided-reads
 use Rattle.flat.proofs.of_blocked.Goals as goal
 
 pub returns-in-Refused : goal.returns-in-Refused

@@ -1,6 +1,5 @@
 -- `flat::of_let_go` meets its contract. Assumes nothing.
 use mathlib.Core.Path.{refl}
-use borrow.Author.Rules.{rules}
 use Rattle.flat.proofs.of_let_go.Goals as goal
 
 pub returns-in-Refused : goal.returns-in-Refused

@@ -1,5 +1,4 @@
 -- `flat::of_number` meets its contract. Assumes nothing.
-use borrow.Author.Rules.{rules}
 use Rattle.flat.proofs.of_number.Goals as goal
 
 pub returns-in-Refused : goal.returns-in-Refused

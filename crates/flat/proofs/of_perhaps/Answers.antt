@@ -1,6 +1,5 @@
 -- `flat::of_perhaps` meets its contract. Assumes nothing.
 use mathlib.Core.Path.{refl}
-use borrow.Author.Rules.{rules}
 use Rattle.flat.proofs.of_perhaps.Goals as goal
 
 pub returns-in-Refused : goal.returns-in-Refused

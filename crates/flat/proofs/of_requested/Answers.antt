@@ -1,5 +1,4 @@
 -- `flat::of_requested` meets its contract. Assumes nothing.
-use borrow.Author.Rules.{rules}
 use Rattle.flat.proofs.of_requested.Goals as goal
 
 pub returns-in-Refused : goal.returns-in-Refused

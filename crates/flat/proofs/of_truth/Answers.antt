@@ -1,5 +1,4 @@
 -- `flat::of_truth` meets its contract. Assumes nothing.
-use borrow.Author.Rules.{rules}
 use Rattle.flat.proofs.of_truth.Goals as goal
 
 pub returns-in-Refused : goal.returns-in-Refused

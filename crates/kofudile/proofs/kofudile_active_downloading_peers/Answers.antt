@@ -1,5 +1,4 @@
 -- `kofudile::kofudile_active_downloading_peers` meets its contract. Assumes nothing.
-use borrow.Author.Rules.{rules}
 use Rattle.kofudile.proofs.kofudile_active_downloading_peers.Goals as goal
 
 pub returns : goal.returns

@@ -1,5 +1,4 @@
 -- `kofudile::kofudile_active_prefix_probe_started_at` meets its contract. Assumes nothing.
-use borrow.Author.Rules.{rules}
 use Rattle.kofudile.proofs.kofudile_active_prefix_probe_started_at.Goals as goal
 
 pub returns : goal.returns

@@ -1,7 +1,6 @@
 -- `kofudile::kofudile_clear_preferred_peer` meets its contract. Assumes nothing.
 use mathlib.Core.Path.{ap, ◌∙◌}
 use Rattle.flat.specs.Flat.{done_flat}
-use borrow.Author.Rules.{rules}
 use Rattle.kofudile.proofs.kofudile_clear_preferred_peer.Goals as goal
 
 pub returns : goal.returns

@@ -1,5 +1,4 @@
 -- `kofudile::kofudile_compute_request_capacity` meets its contract. Assumes nothing.
-use borrow.Author.Rules.{rules}
 use Rattle.kofudile.proofs.kofudile_compute_request_capacity.Goals as goal
 
 pub returns : goal.returns

@@ -1,7 +1,6 @@
 -- `kofudile::kofudile_confirm_cold_front_hedge` meets its contract. Assumes nothing.
 use mathlib.Core.Path.{ap, ◌∙◌}
 use Rattle.flat.specs.Flat.{done_flat}
-use borrow.Author.Rules.{rules}
 use Rattle.kofudile.proofs.kofudile_confirm_cold_front_hedge.Goals as goal
 
 pub returns : goal.returns

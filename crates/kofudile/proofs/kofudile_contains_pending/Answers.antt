@@ -1,5 +1,4 @@
 -- `kofudile::kofudile_contains_pending` meets its contract. Assumes nothing.
-use borrow.Author.Rules.{rules}
 use Rattle.kofudile.proofs.kofudile_contains_pending.Goals as goal
 
 pub returns : goal.returns

@@ -1,5 +1,4 @@
 -- `kofudile::kofudile_effective_owner_timeout` meets its contract. Assumes nothing.
-use borrow.Author.Rules.{rules}
 use Rattle.kofudile.proofs.kofudile_effective_owner_timeout.Goals as goal
 
 pub returns : goal.returns

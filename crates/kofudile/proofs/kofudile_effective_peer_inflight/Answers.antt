@@ -1,5 +1,4 @@
 -- `kofudile::kofudile_effective_peer_inflight` meets its contract. Assumes nothing.
-use borrow.Author.Rules.{rules}
 use Rattle.kofudile.proofs.kofudile_effective_peer_inflight.Goals as goal
 
 pub returns : goal.returns

@@ -1,5 +1,4 @@
 -- `kofudile::kofudile_ewma_block_bytes` meets its contract. Assumes nothing.
-use borrow.Author.Rules.{rules}
 use Rattle.kofudile.proofs.kofudile_ewma_block_bytes.Goals as goal
 
 pub returns : goal.returns

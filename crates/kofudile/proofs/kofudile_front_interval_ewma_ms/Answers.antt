@@ -1,5 +1,4 @@
 -- `kofudile::kofudile_front_interval_ewma_ms` meets its contract. Assumes nothing.
-use borrow.Author.Rules.{rules}
 use Rattle.kofudile.proofs.kofudile_front_interval_ewma_ms.Goals as goal
 
 pub returns : goal.returns

@@ -1,5 +1,4 @@
 -- `kofudile::kofudile_hedge_offered` meets its contract. Assumes nothing.
-use borrow.Author.Rules.{rules}
 use Rattle.kofudile.proofs.kofudile_hedge_offered.Goals as goal
 
 pub returns : goal.returns

@@ -1,5 +1,4 @@
 -- `kofudile::kofudile_is_downloading` meets its contract. Assumes nothing.
-use borrow.Author.Rules.{rules}
 use Rattle.kofudile.proofs.kofudile_is_downloading.Goals as goal
 
 pub returns : goal.returns

@@ -1,7 +1,6 @@
 -- `kofudile::kofudile_mark_peer_unresponsive` meets its contract. Assumes nothing.
 use mathlib.Core.Path.{ap, ◌∙◌}
 use Rattle.flat.specs.Flat.{done_flat}
-use borrow.Author.Rules.{rules}
 use Rattle.kofudile.proofs.kofudile_mark_peer_unresponsive.Goals as goal
 
 pub returns : goal.returns

@@ -1,7 +1,6 @@
 -- `kofudile::kofudile_mark_requested_words` meets its contract. Assumes nothing.
 use mathlib.Core.Path.{ap, ◌∙◌}
 use Rattle.flat.specs.Flat.{number_flat}
-use borrow.Author.Rules.{rules}
 use Rattle.kofudile.proofs.kofudile_mark_requested_words.Goals as goal
 
 pub returns : goal.returns

@@ -1,5 +1,4 @@
 -- `kofudile::kofudile_max_pending_blocks` meets its contract. Assumes nothing.
-use borrow.Author.Rules.{rules}
 use Rattle.kofudile.proofs.kofudile_max_pending_blocks.Goals as goal
 
 pub returns : goal.returns

@@ -1,5 +1,4 @@
 -- `kofudile::kofudile_min_peers_for_fanout` meets its contract. Assumes nothing.
-use borrow.Author.Rules.{rules}
 use Rattle.kofudile.proofs.kofudile_min_peers_for_fanout.Goals as goal
 
 pub returns : goal.returns

@@ -5,7 +5,6 @@ use Rattle.model.specs.Refusals.{changes, observes}
 use Rattle.model.specs.Perform.{perform}
 use Rattle.observation.specs.Look.{look}
 use Rattle.flat.specs.Flat.{blocked_flat}
-use borrow.Author.Rules.{rules}
 use Rattle.kofudile.proofs.kofudile_observe_blocked.Goals as goal
 
 pub returns : goal.returns

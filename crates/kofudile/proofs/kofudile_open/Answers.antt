@@ -1,7 +1,6 @@
 -- `kofudile::kofudile_open` meets its contract. Assumes nothing.
 use mathlib.Core.Path.{ap, ◌∙◌}
 use Rattle.flat.specs.Flat.{done_flat}
-use borrow.Author.Rules.{rules}
 use Rattle.kofudile.proofs.kofudile_open.Goals as goal
 
 pub returns : goal.returns

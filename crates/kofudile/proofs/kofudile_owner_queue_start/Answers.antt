@@ -1,5 +1,4 @@
 -- `kofudile::kofudile_owner_queue_start` meets its contract. Assumes nothing.
-use borrow.Author.Rules.{rules}
 use Rattle.kofudile.proofs.kofudile_owner_queue_start.Goals as goal
 
 pub returns : goal.returns

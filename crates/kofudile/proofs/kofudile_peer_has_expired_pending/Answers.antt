@@ -1,5 +1,4 @@
 -- `kofudile::kofudile_peer_has_expired_pending` meets its contract. Assumes nothing.
-use borrow.Author.Rules.{rules}
 use Rattle.kofudile.proofs.kofudile_peer_has_expired_pending.Goals as goal
 
 pub returns : goal.returns

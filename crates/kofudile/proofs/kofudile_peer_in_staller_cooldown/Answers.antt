@@ -1,5 +1,4 @@
 -- `kofudile::kofudile_peer_in_staller_cooldown` meets its contract. Assumes nothing.
-use borrow.Author.Rules.{rules}
 use Rattle.kofudile.proofs.kofudile_peer_in_staller_cooldown.Goals as goal
 
 pub returns : goal.returns

@@ -1,5 +1,4 @@
 -- `kofudile::kofudile_pending_high_water` meets its contract. Assumes nothing.
-use borrow.Author.Rules.{rules}
 use Rattle.kofudile.proofs.kofudile_pending_high_water.Goals as goal
 
 pub returns : goal.returns

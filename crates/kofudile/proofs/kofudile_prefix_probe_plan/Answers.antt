@@ -2,7 +2,6 @@
 use mathlib.Core.Path.{ap, ◌∙◌}
 use Rattle.flat.specs.Plans.{answer_flat}
 use Rattle.flat.specs.Flat.{plan_flat}
-use borrow.Author.Rules.{rules}
 use Rattle.kofudile.proofs.kofudile_prefix_probe_plan.Goals as goal
 
 pub returns : goal.returns

@@ -1,5 +1,4 @@
 -- `kofudile::kofudile_probe_offered` meets its contract. Assumes nothing.
-use borrow.Author.Rules.{rules}
 use Rattle.kofudile.proofs.kofudile_probe_offered.Goals as goal
 
 pub returns : goal.returns

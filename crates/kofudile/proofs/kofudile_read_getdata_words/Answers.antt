@@ -1,7 +1,6 @@
 -- `kofudile::kofudile_read_getdata_words` meets its contract. Assumes nothing.
 use mathlib.Core.Path.{ap, ◌∙◌}
 use Rattle.flat.specs.Flat.{number_flat}
-use borrow.Author.Rules.{rules}
 use Rattle.kofudile.proofs.kofudile_read_getdata_words.Goals as goal
 
 pub returns : goal.returns

@@ -1,5 +1,4 @@
 -- `kofudile::kofudile_request_cursor` meets its contract. Assumes nothing.
-use borrow.Author.Rules.{rules}
 use Rattle.kofudile.proofs.kofudile_request_cursor.Goals as goal
 
 pub returns : goal.returns

@@ -1,7 +1,6 @@
 -- `kofudile::kofudile_set_fanout_eligible_peers` meets its contract. Assumes nothing.
 use mathlib.Core.Path.{ap, ◌∙◌}
 use Rattle.flat.specs.Flat.{done_flat}
-use borrow.Author.Rules.{rules}
 use Rattle.kofudile.proofs.kofudile_set_fanout_eligible_peers.Goals as goal
 
 pub returns : goal.returns

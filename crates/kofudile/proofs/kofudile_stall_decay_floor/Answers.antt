@@ -1,5 +1,4 @@
 -- `kofudile::kofudile_stall_decay_floor` meets its contract. Assumes nothing.
-use borrow.Author.Rules.{rules}
 use Rattle.kofudile.proofs.kofudile_stall_decay_floor.Goals as goal
 
 pub returns : goal.returns

@@ -1,5 +1,4 @@
 -- `kofudile::kofudile_stall_timeout` meets its contract. Assumes nothing.
-use borrow.Author.Rules.{rules}
 use Rattle.kofudile.proofs.kofudile_stall_timeout.Goals as goal
 
 pub returns : goal.returns

@@ -1,5 +1,4 @@
 -- `kofudile::kofudile_stalling_peer` meets its contract. Assumes nothing.
-use borrow.Author.Rules.{rules}
 use Rattle.kofudile.proofs.kofudile_stalling_peer.Goals as goal
 
 pub returns : goal.returns

@@ -1,10 +1,9 @@
 -- `ledger::add` meets its contract. Assumes nothing.
-use mathlib.Core.Path.{◌≡◌, ◌∙◌, refl, ap}
-use Prim.Native.Nat.{ℕ, ◌-◌, ◌≤◌}
+use mathlib.Core.Path.{◌∙◌, refl, ap}
+use Prim.Native.Nat.{ℕ, ◌-◌}
 use native.Mathlib.Numerals.{add-one}
 use native.Mathlib.Omega.{arith}
 use Rattle.ledger.specs.Book.{capped, added}
-use borrow.Author.Rules.{rules}
 use Rattle.ledger.proofs.add.Goals as goal
 
 pub loop-i-init : goal.loop-i-init

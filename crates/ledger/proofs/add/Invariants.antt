@@ -1,10 +1,7 @@
 -- `ledger::add` meets its contract. Assumes nothing.
-use mathlib.Core.Path.{◌≡◌, ◌∙◌, refl, ap}
-use Prim.Native.Nat.{ℕ, ◌-◌, ◌≤◌}
-use native.Mathlib.Numerals.{add-one}
-use native.Mathlib.Omega.{arith}
-use Rattle.ledger.specs.Book.{capped, added}
-use borrow.Author.Rules.{rules}
+use mathlib.Core.Path.{◌≡◌}
+use Prim.Native.Nat.{◌-◌, ◌≤◌}
+use Rattle.ledger.specs.Book.{added}
 use Rattle.ledger.proofs.add.Given as goal
 
 abbrev pub invariant-loop-i : goal.invariant-loop-i

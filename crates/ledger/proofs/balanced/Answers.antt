@@ -1,6 +1,5 @@
 -- `ledger::balanced` meets its contract. Assumes nothing.
 use mathlib.Core.Path.{refl}
-use borrow.Author.Rules.{rules}
 use Rattle.ledger.proofs.balanced.Goals as goal
 
 pub returns : goal.returns

@@ -1,6 +1,5 @@
 -- `ledger::column` meets its contract. Assumes nothing.
 use mathlib.Core.Path.{refl}
-use borrow.Author.Rules.{rules}
 use Rattle.ledger.specs.Book.{column}
 use Rattle.ledger.proofs.column.Goals as goal
 

@@ -1,6 +1,5 @@
 -- `ledger::fetched` meets its contract. Assumes nothing.
 use mathlib.Core.Path.{refl}
-use borrow.Author.Rules.{rules}
 use Rattle.ledger.proofs.fetched.Goals as goal
 
 pub returns : goal.returns

@@ -1,6 +1,5 @@
 -- `ledger::let_go` meets its contract. Assumes nothing.
 use mathlib.Core.Path.{refl}
-use borrow.Author.Rules.{rules}
 use Rattle.ledger.specs.Book.{let_go}
 use Rattle.ledger.proofs.let_go.Goals as goal
 

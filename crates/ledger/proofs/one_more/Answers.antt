@@ -2,7 +2,6 @@
 use mathlib.Core.Path.{refl}
 use native.Mathlib.Omega.{arith}
 use Rattle.ledger.specs.Book.{one_more}
-use borrow.Author.Rules.{rules}
 use Rattle.ledger.proofs.one_more.Goals as goal
 
 pub offset_bounds-l-k : goal.offset_bounds-l-k

@@ -1,6 +1,5 @@
 -- `ledger::opened` meets its contract. Assumes nothing.
 use mathlib.Core.Path.{refl}
-use borrow.Author.Rules.{rules}
 use Rattle.ledger.specs.Book.{opened}
 use Rattle.ledger.proofs.opened.Goals as goal
 

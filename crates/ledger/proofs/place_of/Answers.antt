@@ -2,7 +2,6 @@
 use mathlib.Core.Path.{refl}
 use native.Mathlib.Omega.{arith}
 use borrow.Author.Tests.{le-leb, lt-leb}
-use borrow.Author.Rules.{rules}
 use Rattle.ledger.proofs.place_of.Goals as goal
 
 pub returns-then-reason-le10 : goal.returns-then-reason-le10

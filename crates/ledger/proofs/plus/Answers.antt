@@ -1,7 +1,6 @@
 -- `ledger::plus` meets its contract. Assumes nothing.
 use mathlib.Core.Path.{sym}
 use native.Mathlib.Omega.{arith}
-use borrow.Author.Rules.{rules}
 use Rattle.laws.specs.Numbers.{lesser_first, lesser_second}
 use Rattle.ledger.specs.Book.{capped}
 use Rattle.ledger.proofs.plus.Goals as goal

@@ -1,6 +1,5 @@
 -- `ledger::requested` meets its contract. Assumes nothing.
 use mathlib.Core.Path.{refl}
-use borrow.Author.Rules.{rules}
 use Rattle.ledger.proofs.requested.Goals as goal
 
 pub returns : goal.returns

@@ -1,11 +1,7 @@
 -- `ledger::sum` meets its contract. Assumes nothing.
-use mathlib.Core.Path.{◌≡◌, refl, ◌∙◌, ap}
-use mathlib.Core.List.{List}
-use Prim.Native.Nat.{ℕ, suc, ◌+◌, ◌-◌, ◌≤◌}
-use native.Mathlib.Omega.{arith}
-use lib.ListN.{get_or}
-use borrow.Author.Rules.{rules}
-use Rattle.ledger.specs.Book.{capped, capped_sum}
+use mathlib.Core.Path.{◌≡◌}
+use Prim.Native.Nat.{◌-◌, ◌≤◌}
+use Rattle.ledger.specs.Book.{capped_sum}
 use Rattle.ledger.proofs.sum.Given as goal
 
 abbrev pub invariant-loop-i : goal.invariant-loop-i

@@ -1,14 +1,8 @@
 -- `ledger::tally` meets its contract: at the loop's head i places are counted. Assumes nothing.
-use mathlib.Core.Path.{◌≡◌, ◌∙◌, refl, ap}
-use mathlib.Core.Bool.{Bool}
-use mathlib.Core.List.{List}
-use Prim.Native.Nat.{ℕ, suc, ◌+◌, ◌*◌, ◌-◌, ◌≤◌}
-use native.Mathlib.Numerals.{add-one}
-use native.Mathlib.Omega.{arith}
-use lib.ListN.{get_or}
-use borrow.Author.Rules.{rules}
+use mathlib.Core.Path.{◌≡◌}
+use Prim.Native.Nat.{◌-◌, ◌≤◌}
 use Rattle.model.specs.Numbers.{lesser}
-use Rattle.ledger.specs.Book.{one_more, weight, tallied}
+use Rattle.ledger.specs.Book.{tallied}
 use Rattle.ledger.proofs.tally.Given as goal
 
 abbrev pub invariant-loop-i : goal.invariant-loop-i

@@ -1,7 +1,6 @@
 -- `lend::unfilled` meets its contract: 256 times what `blank` makes.
 use mathlib.Core.Path.{ap}
 use lib.ListN.{replicate}
-use borrow.Author.Rules.{rules}
 use Rattle.model.specs.declared.Release.{Release}
 use Rattle.lend.specs.Blank.{none_filled}
 use Rattle.lend.proofs.unfilled.Goals as goal

@@ -1,14 +1,13 @@
 -- `lend::words_of` meets its contract: at the loop's head the words have the first i places of the report. Assumes nothing.
 use mathlib.Core.Path.{◌≡◌, refl, sym, ap, ◌∙◌}
 use mathlib.Core.List.{List, [], ◌∷◌, ◌++◌}
-use Prim.Native.Nat.{ℕ, suc, ◌-◌, ◌≤◌, ◌<◌}
+use Prim.Native.Nat.{ℕ, suc, ◌-◌, ◌<◌}
 use native.Mathlib.Numerals.{add-one}
 use native.Mathlib.Omega.{arith}
 use borrow.Author.Rules.{rules}
-use lib.ListN.{length, take, get_or}
+use lib.ListN.{length, get_or}
 use lib.Seq.{take-suc, take_all}
 use Rattle.model.specs.Reasons.{release}
-use Rattle.model.specs.declared.Entry.{Entry}
 use Rattle.model.specs.declared.Release.{Release}
 use Rattle.report_words.specs.Report.{releases_of}
 use Rattle.lend.specs.Blank.{blank}

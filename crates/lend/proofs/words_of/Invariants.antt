@@ -1,17 +1,10 @@
 -- `lend::words_of` meets its contract: at the loop's head the words have the first i places of the report. Assumes nothing.
-use mathlib.Core.Path.{◌≡◌, refl, sym, ap, ◌∙◌}
-use mathlib.Core.List.{List, [], ◌∷◌, ◌++◌}
-use Prim.Native.Nat.{ℕ, suc, ◌-◌, ◌≤◌, ◌<◌}
-use native.Mathlib.Numerals.{add-one}
-use native.Mathlib.Omega.{arith}
-use borrow.Author.Rules.{rules}
-use lib.ListN.{length, take, get_or}
-use lib.Seq.{take-suc, take_all}
-use Rattle.model.specs.Reasons.{release}
-use Rattle.model.specs.declared.Entry.{Entry}
+use mathlib.Core.Path.{◌≡◌}
+use mathlib.Core.List.{List}
+use Prim.Native.Nat.{ℕ, ◌-◌, ◌≤◌}
+use lib.ListN.{length, take}
 use Rattle.model.specs.declared.Release.{Release}
 use Rattle.report_words.specs.Report.{releases_of}
-use Rattle.lend.specs.Blank.{blank}
 use Rattle.lend.proofs.words_of.Given as goal
 
 abbrev pub Inv : List Release → List ℕ → ℕ → Type 0

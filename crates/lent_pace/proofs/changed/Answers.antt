@@ -2,7 +2,6 @@
 use mathlib.Core.Path.{subst}
 use Rattle.lent_pace.specs.Turns.{asked}
 use Rattle.lent_pace.specs.declared.Turn.{Turn}
-use borrow.Author.Rules.{rules}
 use Rattle.lent_pace.proofs.changed.Goals as goal
 
 pub lend_at_front-requires : goal.lend_at_front-requires

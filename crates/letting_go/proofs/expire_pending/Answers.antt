@@ -1,7 +1,6 @@
 -- `letting_go::expire_pending` meets its contract. Assumes nothing.
 use mathlib.Core.Path.{refl}
 use native.Mathlib.Omega.{arith}
-use borrow.Author.Rules.{rules}
 use Rattle.model.specs.Numbers.{read_clock}
 use Rattle.model.specs.Refusals.{Change, checks, expires}
 use Rattle.refusals.specs.Outcomes.{admitted}

@@ -1,6 +1,5 @@
 -- `letting_go::gone_at` meets its contract. Assumes nothing.
 use mathlib.Core.Path.{refl}
-use borrow.Author.Rules.{rules}
 use Rattle.letting_go.proofs.gone_at.Goals as goal
 
 pub set_clock-requires : goal.set_clock-requires

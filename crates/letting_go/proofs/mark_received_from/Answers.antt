@@ -2,7 +2,6 @@
 use mathlib.Core.Path.{◌≡◌, refl, subst}
 use mathlib.Core.Bool.{Bool, true}
 use native.Mathlib.Omega.{arith}
-use borrow.Author.Rules.{rules}
 use Rattle.model.specs.Numbers.{read_clock}
 use Rattle.model.specs.Refusals.{Change, at, body_refusal, checking, checks, receives, window_refusal}
 use Rattle.refusals.specs.Outcomes.{admitted}

@@ -1,5 +1,5 @@
 -- `listed::add` meets its contract. Assumes nothing.
-use Rattle.std.proofs.Common.{◌<◌, length, arith, length-set, rules}
+use Rattle.std.proofs.Common.{◌<◌, length, arith, length-set}
 use Rattle.listed.specs.Laws.{is_below, indexed_full, indexed_more}
 use Rattle.listed.proofs.add.Goals.{After-bucket_at-b}
 use Rattle.listed.proofs.add.Goals as goal

@@ -1,5 +1,5 @@
 -- `listed::add_all` meets its contract: the first i hashes are in the index. Assumes nothing.
-use Rattle.std.proofs.Common.{◌≡◌, ℕ, ◌-◌, ◌/◌, ◌≤◌, length, subst, arith, rules}
+use Rattle.std.proofs.Common.{◌≡◌, ℕ, ◌-◌, ◌/◌, length, subst, arith, rules}
 use Rattle.listed.specs.Index.{Indexed}
 use Rattle.listed.proofs.add_all.Goals as goal
 

@@ -1,5 +1,5 @@
 -- `listed::bucket` meets its contract. Assumes nothing.
-use Rattle.std.proofs.Common.{ℕ, ◌+◌, ◌%◌, ap, ◌∙◌, rules}
+use Rattle.std.proofs.Common.{ℕ, ◌+◌, ◌%◌, ap, ◌∙◌}
 use Rattle.model.specs.Hash.{base}
 use Rattle.listed.specs.Index.{bucket}
 use Rattle.listed.proofs.bucket.Goals as goal

@@ -1,12 +1,8 @@
 -- `listed::chained` meets its contract: what is left to look at is a chain of its bucket. Assumes nothing.
-use Rattle.std.proofs.Common.{ℕ, ◌+◌, ◌-◌, ◌<◌, ◌≤◌, length, get_or, sym, refl, ap, ◌∙◌, arith, rules}
+use Rattle.std.proofs.Common.{◌-◌, length}
 use Rattle.model.specs.Hash.{hash}
-use Rattle.model.specs.declared.Hash.{Hash}
-use Rattle.hash.specs.Words.{Words}
 use Rattle.listed.specs.Index.{linked}
-use Rattle.listed.specs.Search.{named_at, named_none}
-use Rattle.listed.specs.Laws.{is_below, linked_le, linked_le_links}
-use Rattle.listed.specs.Chain.{Chain, chain_start, chain_next, next_less}
+use Rattle.listed.specs.Chain.{Chain}
 use Rattle.listed.proofs.chained.Given as goal
 
 abbrev pub invariant-loop-j : goal.invariant-loop-j

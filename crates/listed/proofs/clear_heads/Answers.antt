@@ -1,6 +1,5 @@
 -- `listed::clear_heads` meets its contract: the heads before b are 0. Assumes nothing.
-use Rattle.std.proofs.Common.{◌≡◌, ◌-◌, ◌≤◌, length, arith, length-set}
-use Rattle.listed.specs.Index.{Zeros}
+use Rattle.std.proofs.Common.{◌-◌, arith, length-set}
 use Rattle.listed.specs.Laws.{zeros_more}
 use Rattle.listed.proofs.clear_heads.Goals as goal
 

@@ -1,7 +1,6 @@
 -- `listed::clear_heads` meets its contract: the heads before b are 0. Assumes nothing.
-use Rattle.std.proofs.Common.{◌≡◌, ◌-◌, ◌≤◌, length, arith, length-set}
+use Rattle.std.proofs.Common.{◌≡◌, ◌-◌, ◌≤◌, length}
 use Rattle.listed.specs.Index.{Zeros}
-use Rattle.listed.specs.Laws.{zeros_more}
 use Rattle.listed.proofs.clear_heads.Given as goal
 
 abbrev pub invariant-loop-b : goal.invariant-loop-b

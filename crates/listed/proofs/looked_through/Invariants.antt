@@ -1,8 +1,7 @@
 -- `listed::looked_through` meets its contract: the hash is at no place before i. Assumes nothing.
-use Rattle.std.proofs.Common.{◌≡◌, ℕ, ◌-◌, ◌≤◌, false, take, sym, ap, ◌∙◌, arith}
+use Rattle.std.proofs.Common.{◌≡◌, ◌-◌, ◌≤◌, false, take}
 use Rattle.model.specs.Lists.{any}
 use Rattle.model.specs.Hash.{hash, hashes_in, same}
-use Rattle.listed.specs.Search.{named_at, named_more}
 use Rattle.listed.proofs.looked_through.Given as goal
 
 abbrev pub invariant-loop-i : goal.invariant-loop-i

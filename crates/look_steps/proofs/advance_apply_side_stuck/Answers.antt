@@ -10,7 +10,6 @@ use Rattle.laws.specs.Whole.{Holds}
 use Rattle.states.specs.Fits.{stuck_fits}
 use Rattle.watch.specs.declared.Stepped.{Stepped}
 use Rattle.look_steps.specs.Steps.{received_le, stuck_writes}
-use borrow.Author.Rules.{rules}
 use Rattle.look_steps.proofs.advance_apply_side_stuck.Goals as goal
 
 pub apply_side_stuck-step-requires : goal.apply_side_stuck-step-requires

@@ -4,7 +4,6 @@ use Rattle.model.specs.Layout.{window_of}
 use Rattle.model.specs.declared.Observation.{Observation}
 use Rattle.laws.specs.Sound.{SoundObservation}
 use Rattle.look_steps.specs.Steps.{timeout_is}
-use borrow.Author.Rules.{rules}
 use Rattle.look_steps.proofs.advance_pending_timeout.Goals as goal
 
 pub blame_late-requires : goal.blame_late-requires

@@ -4,7 +4,6 @@ use Rattle.model.specs.Layout.{window_of}
 use Rattle.model.specs.declared.Front.{Front}
 use Rattle.laws.specs.LooksKept.{FrontIn, lowest_in}
 use Rattle.look_steps.specs.Steps.{stall_none, stall_free, stall_held}
-use borrow.Author.Rules.{rules}
 use Rattle.look_steps.proofs.advance_stall.Goals as goal
 
 pub returns-in_default : goal.returns-in_default

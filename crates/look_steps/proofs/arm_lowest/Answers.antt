@@ -5,7 +5,6 @@ use Rattle.model.specs.Observation.{armed_by}
 use Rattle.model.specs.Window.{with_observation}
 use Rattle.model.specs.declared.Observation.{Observation}
 use Rattle.laws.specs.Whole.{Holds}
-use borrow.Author.Rules.{rules}
 use Rattle.look_steps.proofs.arm_lowest.Goals as goal
 
 pub returns : goal.returns

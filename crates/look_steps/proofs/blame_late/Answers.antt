@@ -4,7 +4,6 @@ use native.Mathlib.Omega.{arith}
 use Rattle.model.specs.Cooling.{mark_peer_unresponsive}
 use Rattle.model.specs.Layout.{window_of}
 use Rattle.look_steps.specs.Steps.{and_next, key_le, key_on}
-use borrow.Author.Rules.{rules}
 use Rattle.look_steps.proofs.blame_late.Goals as goal
 
 pub mark_peer_unresponsive-requires : goal.mark_peer_unresponsive-requires

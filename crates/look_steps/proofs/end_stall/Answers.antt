@@ -4,7 +4,6 @@ use Rattle.model.specs.Cooling.{mark_peer_unresponsive}
 use Rattle.model.specs.Layout.{window_of}
 use Rattle.model.specs.Window.{with_pace}
 use Rattle.look_steps.specs.Steps.{and_next, key_on}
-use borrow.Author.Rules.{rules}
 use Rattle.look_steps.proofs.end_stall.Goals as goal
 
 pub mark_peer_unresponsive-requires : goal.mark_peer_unresponsive-requires

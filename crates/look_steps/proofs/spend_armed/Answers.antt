@@ -1,6 +1,5 @@
 -- `look_steps::spend_armed` meets its contract. Assumes nothing.
 use mathlib.Core.Path.{refl, sym, ◌∙◌}
-use borrow.Author.Rules.{rules}
 use Rattle.look_steps.proofs.spend_armed.Goals as goal
 
 pub returns-then-still_late : goal.returns-then-still_late

@@ -16,7 +16,6 @@ use Rattle.laws.specs.LooksKept.{since_le}
 use Rattle.laws.specs.Sound.{SoundStall}
 use Rattle.laws.specs.Whole.{Holds}
 use Rattle.look_steps.specs.Steps.{key_le, stall_goes, stall_fires}
-use borrow.Author.Rules.{rules}
 use Rattle.look_steps.proofs.stall_at.Goals as goal
 
 pub effective_stall_timeout-wait-requires : goal.effective_stall_timeout-wait-requires

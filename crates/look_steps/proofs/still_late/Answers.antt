@@ -8,7 +8,6 @@ use Rattle.records.specs.declared.Place.{Place}
 use Rattle.records.specs.Places.{Finds, here_found, free_found}
 use Rattle.laws.specs.Whole.{sound_rises}
 use Rattle.expiry.specs.Late.{spacing_le}
-use borrow.Author.Rules.{rules}
 use Rattle.look_steps.proofs.still_late.Goals as goal
 
 pub returns-in_default : goal.returns-in_default

@@ -1,9 +1,6 @@
 -- `marks::counted` meets its contract. Assumes nothing.
 use mathlib.Core.Path.{refl}
-use borrow.Author.Rules.{rules}
 use native.Mathlib.Omega.{arith}
-use Rattle.marks.proofs.counted.Reads as reads
-use Rattle.marks.proofs.counted.Lts as lts
 use Rattle.marks.proofs.counted.Goals as goal
 
 pub returns-then-expired : goal.returns-then-expired

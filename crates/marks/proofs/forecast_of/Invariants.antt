@@ -1,26 +1,15 @@
 -- `marks::forecast_of` meets its contract: at the loop's head the forecast is that of the records from i on. Assumes nothing.
-use mathlib.Core.Path.{◌≡◌, refl, sym, ap, ◌∙◌}
-use mathlib.Core.Logic.{inl, inr}
-use mathlib.Core.Bool.{Bool, cond}
-use mathlib.Core.List.{List, ◌∷◌}
-use Prim.Native.Nat.{ℕ, suc, ◌+◌, ◌-◌, ◌*◌, ◌≤◌, ◌<◌}
-use lib.ListN.{length, drop, get_or, drop_of_length-le}
+use mathlib.Core.Path.{◌≡◌}
+use mathlib.Core.Bool.{Bool}
+use mathlib.Core.List.{List}
+use Prim.Native.Nat.{ℕ, ◌-◌, ◌*◌, ◌≤◌}
+use lib.ListN.{length, drop}
 use Rattle.model.specs.Lists.{select}
 use Rattle.model.specs.Records.{sum}
-use Rattle.model.specs.Time.{expired, effective_owner_timeout, owner_download_expired, active}
-use Rattle.model.specs.LettingGo.{forecast, forecast_blocks, forecast_bytes}
+use Rattle.model.specs.Time.{owner_download_expired, active}
 use Rattle.model.specs.Window.{Window}
-use Rattle.model.specs.Layout.{blank, window_of}
+use Rattle.model.specs.Layout.{window_of}
 use Rattle.model.specs.declared.Entry.{Entry}
-use Rattle.laws.specs.Numbers.{both}
-use Rattle.laws.specs.Pending.{Ranged, pending_few, pending_cons, owner_at, estimate_at, seat_at, estimate_le, start_word}
-use native.Mathlib.Omega.{arith}
-use borrow.Author.Rules.{rules}
-use Rattle.marks.proofs.forecast_of.Reads as reads
-use Rattle.marks.proofs.forecast_of.Lts as lts
-use Rattle.marks.proofs.counted.Reads as counted-reads
-use Rattle.time.proofs.reached.Reads as reached-reads
-use Rattle.time.proofs.expiry_limit.Reads as expiry-limit-reads
 use Rattle.marks.proofs.forecast_of.Given as goal
 
 abbrev pub goes : ℕ → Window → Entry → Bool

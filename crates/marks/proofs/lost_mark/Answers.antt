@@ -1,7 +1,5 @@
 -- `marks::lost_mark` meets its contract. Assumes nothing.
 use borrow.Author.Tests.{eq-eqb, ne_eqb}
-use Rattle.marks.proofs.lost_mark.Reads as reads
-use Rattle.marks.proofs.lost_mark.Lts as lts
 use Rattle.marks.proofs.lost_mark.Goals as goal
 
 pub returns-then-flag-eq0 : goal.returns-then-flag-eq0

@@ -2,15 +2,14 @@
 use mathlib.Core.Path.{◌≡◌, sym, ap, ◌∙◌}
 use mathlib.Core.Bool.{cond, not}
 use mathlib.Core.List.{List}
-use Prim.Native.Nat.{ℕ, ◌+◌, ◌-◌, ◌≤◌, ◌<◌}
+use Prim.Native.Nat.{ℕ, ◌+◌, ◌-◌, ◌<◌}
 use lib.ListN.{length, get_or}
 use lib.Dec.{eqb}
 use Rattle.model.specs.Layout.{blank, window_of}
 use Rattle.model.specs.LettingGo.{lost_reason, flagged}
 use Rattle.laws.specs.Pending.{pending_few, owner_at, seat_at}
-use borrow.Author.Rules.{rules}
 use native.Mathlib.Omega.{arith}
-use Rattle.marks.proofs.Marked.{Marked, none_made, one_more, all_made}
+use Rattle.marks.proofs.Marked.{none_made, one_more, all_made}
 use Rattle.marks.proofs.lost_marks.Goals as goal
 
 -- the mark of the record at i

@@ -1,13 +1,9 @@
 -- `marks::passed_over` meets its contract. Assumes nothing.
-use mathlib.Core.Path.{◌≡◌, ap}
-use mathlib.Core.Bool.{Bool, ◌&&◌}
+use mathlib.Core.Path.{ap}
+use mathlib.Core.Bool.{◌&&◌}
 use Prim.Native.Nat.{ℕ, suc}
 use native.Mathlib.Numerals.{add-one}
 use lib.Dec.{ltb, leb}
-use borrow.Author.Rules.{rules}
-use Rattle.marks.proofs.passed_over.Reads as reads
-use Rattle.marks.proofs.passed_over.Lts as lts
-use Rattle.numbers.proofs.minus.Reads as minus-reads
 use Rattle.marks.proofs.passed_over.Goals as goal
 
 pub returns : goal.returns

@@ -1,7 +1,5 @@
 -- `marks::retire_mark` meets its contract. Assumes nothing.
 use borrow.Author.Tests.{lt-ltb, le-ltb}
-use Rattle.marks.proofs.retire_mark.Reads as reads
-use Rattle.marks.proofs.retire_mark.Lts as lts
 use Rattle.marks.proofs.retire_mark.Goals as goal
 
 pub returns-then-height-limit : goal.returns-then-height-limit

@@ -2,15 +2,14 @@
 use mathlib.Core.Path.{◌≡◌, sym, ap, ◌∙◌}
 use mathlib.Core.Bool.{cond}
 use mathlib.Core.List.{List}
-use Prim.Native.Nat.{ℕ, ◌+◌, ◌-◌, ◌≤◌, ◌<◌}
+use Prim.Native.Nat.{ℕ, ◌+◌, ◌-◌, ◌<◌}
 use lib.ListN.{length, get_or}
 use lib.Dec.{ltb}
 use Rattle.model.specs.Layout.{blank, window_of}
 use Rattle.laws.specs.Batches.{retire_reason}
 use Rattle.laws.specs.Pending.{pending_few, height_at}
-use borrow.Author.Rules.{rules}
 use native.Mathlib.Omega.{arith}
-use Rattle.marks.proofs.Marked.{Marked, none_made, one_more, all_made}
+use Rattle.marks.proofs.Marked.{none_made, one_more, all_made}
 use Rattle.marks.proofs.retire_marks.Goals as goal
 
 -- the mark of the record at i

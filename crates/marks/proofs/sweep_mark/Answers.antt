@@ -1,10 +1,5 @@
 -- `marks::sweep_mark` meets its contract. Assumes nothing.
-use mathlib.Core.Path.{◌≡◌, sym, ◌∙◌}
-use borrow.Author.Rules.{rules}
-use Rattle.marks.proofs.sweep_mark.Reads as reads
-use Rattle.marks.proofs.sweep_mark.Lts as lts
-use Rattle.marks.proofs.passed_over.Reads as passed-over-reads
-use Rattle.time.proofs.expired.Reads as expired-reads
+use mathlib.Core.Path.{sym, ◌∙◌}
 use Rattle.marks.proofs.sweep_mark.Goals as goal
 
 pub returns-then-expired : goal.returns-then-expired

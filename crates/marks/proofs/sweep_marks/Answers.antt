@@ -2,7 +2,7 @@
 use mathlib.Core.Path.{◌≡◌, sym, ap, ◌∙◌}
 use mathlib.Core.Bool.{cond, ◌&&◌}
 use mathlib.Core.List.{List}
-use Prim.Native.Nat.{ℕ, suc, ◌+◌, ◌-◌, ◌≤◌, ◌<◌}
+use Prim.Native.Nat.{ℕ, suc, ◌+◌, ◌-◌, ◌<◌}
 use lib.ListN.{length, get_or}
 use lib.Dec.{ltb, leb}
 use Rattle.model.specs.Layout.{blank, window_of}
@@ -10,7 +10,7 @@ use Rattle.model.specs.Time.{expired}
 use Rattle.model.specs.LettingGo.{skipped, sweep_reason}
 use Rattle.laws.specs.Pending.{Ranged, pending_few, owner_at, time_at, seat_at, time_le, start_word, body_word}
 use native.Mathlib.Omega.{arith}
-use Rattle.marks.proofs.Marked.{Marked, none_made, one_more, all_made}
+use Rattle.marks.proofs.Marked.{none_made, one_more, all_made}
 use Rattle.marks.proofs.sweep_marks.Goals as goal
 
 -- the mark of the record at i

@@ -4,7 +4,6 @@ use Rattle.model.specs.Layout.{window_of}
 use Rattle.laws.specs.LooksKept.{stall_steady}
 use Rattle.look_steps.specs.Steps.{sound_in}
 use Rattle.observation.specs.Look.{late_sees}
-use borrow.Author.Rules.{rules}
 use Rattle.observation.proofs.after_cold_front.Goals as goal
 
 pub advance_pending_timeout-late-requires : goal.advance_pending_timeout-late-requires

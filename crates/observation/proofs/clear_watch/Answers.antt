@@ -7,7 +7,6 @@ use Rattle.model.specs.declared.ColdFront.TheVariants.{Idle}
 use Rattle.model.specs.declared.Observation.TheVariants.{Unarmed}
 use Rattle.look_steps.specs.Steps.{and_next}
 use Rattle.observation.specs.Look.{busy_racing, busy_idle}
-use borrow.Author.Rules.{rules}
 use Rattle.observation.proofs.clear_watch.Goals as goal
 
 pub returns-then-is_racing : goal.returns-then-is_racing

@@ -1,5 +1,4 @@
 -- `observation::hedge_answer` meets its contract. Assumes nothing.
-use borrow.Author.Rules.{rules}
 use Rattle.observation.proofs.hedge_answer.Goals as goal
 
 pub returns : goal.returns

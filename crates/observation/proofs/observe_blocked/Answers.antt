@@ -8,7 +8,6 @@ use Rattle.laws.specs.LooksKept.{stuck_sound}
 use Rattle.laws.specs.Parts.{sound_stuck}
 use Rattle.look_steps.specs.Steps.{sound_in}
 use Rattle.observation.specs.Look.{look, unplaced_sees, busy_sees, quiet_sees, seen_says}
-use borrow.Author.Rules.{rules}
 use Rattle.observation.proofs.observe_blocked.Goals as goal
 
 pub returns-in_default : goal.returns-in_default

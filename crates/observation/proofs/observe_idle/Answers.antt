@@ -8,7 +8,6 @@ use Rattle.laws.specs.LooksKept.{cold_sound}
 use Rattle.laws.specs.Parts.{sound_cold}
 use Rattle.look_steps.specs.Steps.{sound_in}
 use Rattle.observation.specs.Look.{look, idle_sees}
-use borrow.Author.Rules.{rules}
 use Rattle.observation.proofs.observe_idle.Goals as goal
 
 pub after_cold_front-requires : goal.after_cold_front-requires

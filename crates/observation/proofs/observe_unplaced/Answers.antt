@@ -3,7 +3,6 @@ use mathlib.Core.Path.{refl}
 use Rattle.model.specs.Observation.{none, busy_seen}
 use Rattle.model.specs.Races.{no_hedge}
 use Rattle.observation.specs.Look.{timeout_sees}
-use borrow.Author.Rules.{rules}
 use Rattle.observation.proofs.observe_unplaced.Goals as goal
 
 pub returns-then-busy : goal.returns-then-busy

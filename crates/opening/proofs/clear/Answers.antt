@@ -5,7 +5,6 @@ use native.Mathlib.Omega.{arith}
 use lib.ListN.{length}
 use Rattle.model.specs.Layout.{decode}
 use Rattle.opening.specs.Blank.{zeros, decode_zeros}
-use borrow.Author.Rules.{rules}
 use Rattle.opening.proofs.clear.Goals as goal
 
 pub returns : goal.returns

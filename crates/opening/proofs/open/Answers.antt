@@ -6,7 +6,6 @@ use Rattle.model.specs.Layout.{settings_words}
 use Rattle.laws.specs.Tables.{with_keys, with_words}
 use Rattle.layout.specs.Head.{pace_list}
 use Rattle.opening.specs.Blank.{opened_in, opened_holds}
-use borrow.Author.Rules.{rules}
 use Rattle.opening.proofs.open.Goals as goal
 
 pub returns : goal.returns

@@ -5,7 +5,6 @@ use lib.ListN.{length}
 use Prim.Native.Nat.{ℕ}
 use Rattle.model.specs.Layout.{decode}
 use Rattle.laws.specs.Tables.{with_keys, decode_keys}
-use borrow.Author.Rules.{rules}
 use Rattle.opening.proofs.set_keys.Goals as goal
 
 pub returns : goal.returns

@@ -1,5 +1,4 @@
 -- `plan_calls::planned_at` meets its contract. Assumes nothing.
-use borrow.Author.Rules.{rules}
 use Rattle.plan_calls.proofs.planned_at.Goals as goal
 
 pub set_clock-requires : goal.set_clock-requires

@@ -1,7 +1,6 @@
 -- `plan_calls::refused_by` meets its contract. Assumes nothing.
 use mathlib.Core.Path.{◌∙◌}
 use mathlib.Core.Bool.{true}
-use borrow.Author.Rules.{rules}
 use Rattle.model.specs.Layout.{window_of}
 use Rattle.model.specs.Refusals.{at, seat_ok}
 use Rattle.admission.specs.Content.{refused_before, refused_after}

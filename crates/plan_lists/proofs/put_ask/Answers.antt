@@ -3,7 +3,6 @@ use native.Mathlib.Omega.{arith}
 use lib.ListN.{length-set}
 use Rattle.model.specs.Hash.{hash_words}
 use Rattle.plan_lists.specs.Lists.{one_placed, placed_indexed}
-use borrow.Author.Rules.{rules}
 use Rattle.plan_lists.proofs.put_ask.Goals as goal
 
 pub put_hash-requires : goal.put_hash-requires

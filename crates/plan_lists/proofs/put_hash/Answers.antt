@@ -1,5 +1,5 @@
 -- `plan_lists::put_hash` meets its contract. Assumes nothing.
-use Prim.Native.Nat.{◌+◌, ◌*◌}
+use Prim.Native.Nat.{◌*◌}
 use native.Mathlib.Omega.{arith}
 use lib.ListN.{length-set}
 use Rattle.plan_lists.specs.Lists.{four_placed}

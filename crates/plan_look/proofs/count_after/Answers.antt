@@ -2,7 +2,6 @@
 use mathlib.Core.Path.{sym, ap}
 use Rattle.plan_look.specs.declared.Look.{Look}
 use Rattle.plan_look.specs.Plan.{count_after}
-use borrow.Author.Rules.{rules}
 use Rattle.plan_look.proofs.count_after.Goals as goal
 
 pub returns-in-Take : goal.returns-in-Take

@@ -1,6 +1,5 @@
 -- `plan_look::first_after` meets its contract. Assumes nothing.
 use Rattle.plan_look.specs.Plan.{first_noted, first_stays}
-use borrow.Author.Rules.{rules}
 use Rattle.plan_look.proofs.first_after.Goals as goal
 
 pub returns-then-first-eq0 : goal.returns-then-first-eq0

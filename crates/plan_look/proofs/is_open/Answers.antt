@@ -1,8 +1,7 @@
 -- `plan_look::is_open` meets its contract. Assumes nothing.
 use mathlib.Core.Path.{sym, ap, ◌∙◌}
-use mathlib.Core.Bool.{Bool, not, ◌||◌}
+use mathlib.Core.Bool.{Bool, not}
 use Rattle.model.specs.Planning.{names}
-use borrow.Author.Rules.{rules}
 use Rattle.plan_look.proofs.is_open.Goals as goal
 
 pub returns-then-contains_pending : goal.returns-then-contains_pending

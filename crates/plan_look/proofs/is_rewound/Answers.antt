@@ -1,7 +1,6 @@
 -- `plan_look::is_rewound` meets its contract. Assumes nothing.
 use Rattle.model.specs.Layout.{window_of}
 use Rattle.plan_look.specs.Steps.{back_below, back_none, back_open}
-use borrow.Author.Rules.{rules}
 use Rattle.plan_look.proofs.is_rewound.Goals as goal
 
 pub returns-then-frontier-start : goal.returns-then-frontier-start

@@ -1,7 +1,6 @@
 -- `plan_look::look_at` meets its contract. Assumes nothing.
 use mathlib.Core.Bool.{not}
 use Rattle.std.proofs.Common.{ap}
-use mathlib.Core.Bool.{◌||◌}
 use lib.ListN.{take}
 use Rattle.model.specs.Lists.{any}
 use Rattle.model.specs.Hash.{same, hashes_in}

@@ -3,7 +3,6 @@ use mathlib.Core.Path.{sym, ◌∙◌}
 use mathlib.Core.Bool.{true, false}
 use Rattle.laws.specs.Whole.{holds_whole}
 use Rattle.plan_look.specs.Steps.{rewinds}
-use borrow.Author.Rules.{rules}
 use Rattle.plan_look.proofs.maybe_rewind_request_frontier.Goals as goal
 
 pub returns-then-is_rewound : goal.returns-then-is_rewound

@@ -3,7 +3,6 @@ use mathlib.Core.Path.{sym, ap, ◌∙◌}
 use Rattle.model.specs.Numbers.{greater}
 use Rattle.plan_look.specs.declared.Look.{Look}
 use Rattle.plan_look.specs.Plan.{next_past}
-use borrow.Author.Rules.{rules}
 use Rattle.plan_look.proofs.next_past.Goals as goal
 
 pub returns-in-Take : goal.returns-in-Take

@@ -3,7 +3,6 @@ use Prim.Native.Nat.{◌+◌, ◌-◌, ◌*◌}
 use native.Mathlib.Omega.{arith}
 use Rattle.model.specs.Hash.{hash_words}
 use Rattle.plan_look.specs.Plan.{put_placed, set_placed}
-use borrow.Author.Rules.{rules}
 use Rattle.plan_look.proofs.put_ask.Goals as goal
 
 pub returns : goal.returns

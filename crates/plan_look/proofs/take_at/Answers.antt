@@ -4,7 +4,6 @@ use native.Mathlib.Omega.{arith}
 use Rattle.model.specs.Hash.{hash_words}
 use Rattle.plan_look.specs.declared.Look.{Look}
 use Rattle.plan_look.specs.Plan.{indexed_placed, TakenAt}
-use borrow.Author.Rules.{rules}
 use Rattle.plan_look.proofs.take_at.Goals as goal
 
 pub add-requires : goal.add-requires

@@ -2,7 +2,6 @@
 use mathlib.Core.Path.{sym, ap, ◌∙◌}
 use mathlib.Core.Bool.{Bool, cond}
 use Rattle.model.specs.Numbers.{greater, next_height}
-use borrow.Author.Rules.{rules}
 use Rattle.plan_scan.proofs.ended.Goals as goal
 
 pub returns : goal.returns

@@ -1,6 +1,5 @@
 -- `plan_scan::height_of` meets its contract. Assumes nothing.
 use Rattle.plan_look.specs.Plan.{height_some}
-use borrow.Author.Rules.{rules}
 use Rattle.plan_scan.proofs.height_of.Goals as goal
 
 pub returns : goal.returns

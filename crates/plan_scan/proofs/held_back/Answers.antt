@@ -4,7 +4,6 @@ use Prim.Native.Nat.{ℕ}
 use Rattle.model.specs.Numbers.{greater}
 use Rattle.model.specs.Planning.{held_back}
 use Rattle.model.specs.declared.Height.{Height}
-use borrow.Author.Rules.{rules}
 use Rattle.plan_scan.proofs.held_back.Goals as goal
 
 pub returns-in-Known : goal.returns-in-Known

@@ -4,7 +4,6 @@ use mathlib.Core.Bool.{Bool, cond}
 use Rattle.model.specs.Numbers.{greater, next_height}
 use Rattle.model.specs.Planning.{held_back}
 use Rattle.plan_look.specs.Plan.{height_of}
-use borrow.Author.Rules.{rules}
 use Rattle.plan_scan.proofs.next_from.Goals as goal
 
 pub returns-then-clean : goal.returns-then-clean

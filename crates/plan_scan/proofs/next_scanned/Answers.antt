@@ -1,7 +1,6 @@
 -- `plan_scan::next_scanned` meets its contract. Assumes nothing.
 use mathlib.Core.Path.{ap, ◌∙◌}
 use Rattle.model.specs.Planning.{held_back}
-use borrow.Author.Rules.{rules}
 use Rattle.plan_scan.proofs.next_scanned.Goals as goal
 
 pub returns : goal.returns

@@ -3,7 +3,6 @@ use mathlib.Core.Path.{refl}
 use native.Mathlib.Omega.{arith}
 use Rattle.model.specs.Layout.{window_of}
 use Rattle.plan_scan.specs.Proposes.{scannable, proposes_scanned}
-use borrow.Author.Rules.{rules}
 use Rattle.plan_scan.proofs.request_by_scan.Goals as goal
 
 pub reach-last-requires : goal.reach-last-requires

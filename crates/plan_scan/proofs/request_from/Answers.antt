@@ -2,10 +2,8 @@
 use mathlib.Core.Bool.{not}
 use Rattle.std.proofs.Common.{ap}
 use mathlib.Core.Path.{sym, ◌∙◌}
-use borrow.Author.Tests.{not-true}
 use Rattle.model.specs.Layout.{window_of}
 use Rattle.plan_scan.specs.Proposes.{scans_both, proposes_over}
-use borrow.Author.Rules.{rules}
 use Rattle.plan_scan.proofs.request_from.Goals as goal
 
 pub returns-then-not-scans : goal.returns-then-not-scans

@@ -1,8 +1,7 @@
 -- `plan_scan::scan_chain` meets its contract: at the loop's head the heights below are looked at. Assumes nothing.
 use Prim.Native.Nat.{◌+◌, ◌-◌}
-use native.Mathlib.Omega.{arith}
 use Rattle.model.specs.Layout.{window_of}
-use Rattle.plan_scan.specs.Turns.{Turning, turning_start, turning_step, turning_full, turning_end}
+use Rattle.plan_scan.specs.Turns.{Turning}
 use Rattle.plan_scan.proofs.scan_chain.Given as goal
 
 abbrev pub invariant-loop-height : goal.invariant-loop-height

@@ -2,7 +2,6 @@
 use mathlib.Core.Path.{ap, ◌∙◌}
 use Prim.Native.Nat.{ℕ, ◌/◌}
 use Rattle.model.specs.Numbers.{lesser, greater}
-use borrow.Author.Rules.{rules}
 use Rattle.plan_scan.proofs.scan_of.Goals as goal
 
 pub returns : goal.returns

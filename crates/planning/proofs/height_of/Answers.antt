@@ -1,5 +1,4 @@
 -- `planning::height_of` meets its contract. Assumes nothing.
-use native.Mathlib.Omega.{arith}
 use Rattle.planning.specs.Rows.{height_none, height_some}
 use Rattle.planning.proofs.height_of.Goals as goal
 

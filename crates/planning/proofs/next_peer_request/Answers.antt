@@ -1,7 +1,6 @@
 -- `planning::next_peer_request` meets its contract. Assumes nothing.
 use mathlib.Core.Path.{subst}
 use native.Mathlib.Omega.{arith}
-use borrow.Author.Rules.{rules}
 use Rattle.model.specs.Cooling.{key_of}
 use Rattle.model.specs.Planning.{Lent, Proposal}
 use Rattle.planning.specs.Proposes.{lent, Proposes}

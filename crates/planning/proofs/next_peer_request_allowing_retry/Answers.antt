@@ -1,5 +1,4 @@
 -- `planning::next_peer_request_allowing_retry` meets its contract. Assumes nothing.
-use borrow.Author.Rules.{rules}
 use Rattle.model.specs.Planning.{Lent}
 use Rattle.planning.specs.Proposes.{lent}
 use Rattle.planning.specs.Swept.{swept_sound, retry_planned, retry_exhausted}

@@ -1,7 +1,5 @@
 -- `planning::plan_with` meets its contract. Assumes nothing.
-use mathlib.Core.Path.{◌∙◌}
 use native.Mathlib.Omega.{arith}
-use borrow.Author.Rules.{rules}
 use Rattle.model.specs.Layout.{window_of}
 use Rattle.laws.specs.Whole.{sound_rises}
 use Rattle.planning.specs.Rows.{lends, has_mean, asked, scannable, requests}

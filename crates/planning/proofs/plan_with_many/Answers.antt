@@ -1,5 +1,4 @@
 -- `planning::plan_with_many` meets its contract. Assumes nothing.
-use mathlib.Core.Path.{refl}
 use native.Mathlib.Omega.{arith}
 use Rattle.planning.proofs.plan_with_many.Goals as goal
 

@@ -1,6 +1,5 @@
 -- `planning::request_after` meets its contract. Assumes nothing.
 use mathlib.Core.Path.{refl, sym, ap, ◌∙◌}
-use borrow.Author.Rules.{rules}
 use Rattle.capacity.specs.OnNumbers.{batch_says}
 use Rattle.report_words.specs.Report.{releases_of}
 use Rattle.model.specs.Layout.{window_of}

@@ -5,7 +5,6 @@ use Prim.Native.Nat.{ℕ}
 use Rattle.model.specs.Layout.{decode}
 use Rattle.laws.specs.Tables.{with_words}
 use Rattle.plans.specs.Rows.{rows_words}
-use borrow.Author.Rules.{rules}
 use Rattle.plans.proofs.store_planned.Goals as goal
 
 pub returns : goal.returns

@@ -1,5 +1,4 @@
 -- `played::act` meets its contract. Assumes nothing.
-use borrow.Author.Rules.{rules}
 use borrow.Author.Tests.{eq-eqb, ne_eqb}
 use Rattle.played.specs.Steps.{kept}
 use Rattle.played.specs.Told.{turns_making, turns_planning}

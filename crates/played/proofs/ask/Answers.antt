@@ -2,7 +2,6 @@
 use mathlib.Core.Path.{◌∙◌, ap, refl, sym}
 use lib.Seq.{length-take-le}
 use lib.ListN.{replicate, take}
-use borrow.Author.Rules.{rules}
 use Rattle.lend.specs.Goes.{leaves_as, quiet_change}
 use Rattle.model.specs.Refusals.{changes, requests}
 use Rattle.model.specs.Says.{requested_says}

@@ -1,7 +1,6 @@
 -- `played::change` meets its contract. Assumes nothing.
 use mathlib.Core.Path.{◌∙◌, refl}
 use lib.ListN.{replicate}
-use borrow.Author.Rules.{rules}
 use Rattle.played.specs.Steps.{doing}
 use Rattle.played.specs.Told.{done_told, plays_quietly, quiet_changing}
 use Rattle.played.proofs.change.Goals as goal

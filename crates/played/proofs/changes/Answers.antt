@@ -1,7 +1,6 @@
 -- `played::changes` meets its contract. Assumes nothing.
 use mathlib.Core.Path.{◌∙◌, refl, sym}
 use mathlib.Core.List.{[], ◌∷◌}
-use borrow.Author.Rules.{rules}
 use Rattle.lend.specs.Cases.{picks_other}
 use Rattle.lend.specs.Goes.{leaves_as, leaves_at}
 use Rattle.model.specs.Refusals.{changes, confirms_probe, opens}

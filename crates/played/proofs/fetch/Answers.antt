@@ -1,7 +1,6 @@
 -- `played::fetch` meets its contract. Assumes nothing.
 use mathlib.Core.Path.{◌∙◌, ap, refl}
 use lib.ListN.{replicate}
-use borrow.Author.Rules.{rules}
 use Rattle.lend.specs.Goes.{quiet_change}
 use Rattle.played.specs.Steps.{fetching, number_of}
 use Rattle.played.specs.Told.{fetch_opens, fetch_told, number_told, plays_opening}

@@ -1,6 +1,5 @@
 -- `played::let_go` meets its contract. Assumes nothing.
 use mathlib.Core.Path.{◌∙◌, refl}
-use borrow.Author.Rules.{rules}
 use Rattle.played.specs.Steps.{letting}
 use Rattle.played.specs.Told.{let_go_told, plays_letting}
 use Rattle.played.proofs.let_go.Goals as goal

@@ -1,7 +1,6 @@
 -- `played::look` meets its contract. Assumes nothing.
 use mathlib.Core.Path.{◌∙◌, refl, sym}
 use lib.ListN.{replicate}
-use borrow.Author.Rules.{rules}
 use Rattle.lend.specs.Goes.{leaves_as, quiet_change}
 use Rattle.model.specs.Refusals.{changes, observes}
 use Rattle.model.specs.declared.Height.TheVariants.{Known}

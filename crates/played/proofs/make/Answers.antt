@@ -1,5 +1,4 @@
 -- `played::make` meets its contract. Assumes nothing.
-use borrow.Author.Rules.{rules}
 use Rattle.played.specs.Told.{plays_other, plays_step}
 use Rattle.played.proofs.make.Goals as goal
 

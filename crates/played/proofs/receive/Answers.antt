@@ -1,6 +1,5 @@
 -- `played::receive` meets its contract. Assumes nothing.
 use mathlib.Core.Path.{◌∙◌, refl}
-use borrow.Author.Rules.{rules}
 use Rattle.played.specs.Steps.{receiving}
 use Rattle.played.specs.Told.{plays_letting, received_told}
 use Rattle.played.proofs.receive.Goals as goal

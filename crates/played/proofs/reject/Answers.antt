@@ -1,6 +1,5 @@
 -- `played::reject` meets its contract. Assumes nothing.
 use mathlib.Core.Path.{◌∙◌, refl}
-use borrow.Author.Rules.{rules}
 use Rattle.played.specs.Steps.{rejecting}
 use Rattle.played.specs.Told.{plays_letting, rejected_told}
 use Rattle.played.proofs.reject.Goals as goal

@@ -1,7 +1,6 @@
 -- `prefix_probe::height_at` meets its contract. Assumes nothing.
 use mathlib.Core.Path.{ap}
 use Rattle.model.specs.declared.Entry.{Entry}
-use borrow.Author.Rules.{rules}
 use Rattle.prefix_probe.proofs.height_at.Goals as goal
 
 pub returns : goal.returns

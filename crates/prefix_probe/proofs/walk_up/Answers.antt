@@ -8,8 +8,7 @@ use native.Mathlib.Omega.{arith}
 use lib.ListN.{length, get_or}
 use Rattle.model.specs.Layout.{window_of}
 use Rattle.model.specs.declared.Entry.{Entry}
-use Rattle.prefix_probe.specs.Walks.{behind, follows, lower_in, first_in, Walking, Searching, Found, walk_start, walk_over, walk_behind, walk_full, walk_gap, walk_step, search_start, search_behind, search_step, search_done, gap_met, gap_left, limit_met, limit_left}
-use borrow.Author.Rules.{rules}
+use Rattle.prefix_probe.specs.Walks.{behind, follows, lower_in, first_in, Searching, walk_start, walk_over, walk_behind, walk_full, walk_gap, walk_step, search_start, search_behind, search_step, search_done, gap_met, gap_left, limit_met, limit_left}
 use Rattle.prefix_probe.proofs.walk_up.Goals.{After-at_gap, After-loop-i}
 use Rattle.prefix_probe.proofs.walk_up.Goals as goal
 

@@ -1,15 +1,7 @@
 -- `prefix_probe::walk_up` meets its contract. Assumes nothing.
-use mathlib.Core.Path.{◌≡◌, sym, ap, ◌∙◌}
-use mathlib.Core.Bool.{false}
-use mathlib.Core.List.{List}
-use Prim.Native.Nat.{ℕ, ◌-◌, ◌≤◌, ◌<◌}
-use native.Mathlib.Numerals.{add-one}
-use native.Mathlib.Omega.{arith}
-use lib.ListN.{length, get_or}
+use Prim.Native.Nat.{◌-◌}
 use Rattle.model.specs.Layout.{window_of}
-use Rattle.model.specs.declared.Entry.{Entry}
-use Rattle.prefix_probe.specs.Walks.{behind, follows, lower_in, first_in, Walking, Searching, Found, walk_start, walk_over, walk_behind, walk_full, walk_gap, walk_step, search_start, search_behind, search_step, search_done, gap_met, gap_left, limit_met, limit_left}
-use borrow.Author.Rules.{rules}
+use Rattle.prefix_probe.specs.Walks.{Walking, Searching, Found}
 use Rattle.prefix_probe.proofs.walk_up.Given as goal
 
 abbrev pub invariant-loop-i : goal.invariant-loop-i

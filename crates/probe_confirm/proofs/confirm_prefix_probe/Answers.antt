@@ -1,13 +1,11 @@
 -- `probe_confirm::confirm_prefix_probe` meets its contract. Assumes nothing.
-use mathlib.Core.Path.{◌≡◌, refl, sym, ap, subst, ◌∙◌}
+use mathlib.Core.Path.{sym, subst, ◌∙◌}
 use native.Mathlib.Omega.{arith}
-use borrow.Author.Tests.{not-true, not-false}
 use Rattle.model.specs.Layout.{window_of}
 use Rattle.model.specs.Window.{Window}
 use Rattle.laws.specs.Pending.{sound_ranged}
 use Rattle.laws.specs.Whole.{Holds, holds_whole}
 use Rattle.probe_confirm.specs.Confirms.{confirm_none, confirm_small, confirm_other, confirm_rows, confirm_not, confirm_is}
-use borrow.Author.Rules.{rules}
 use Rattle.probe_confirm.proofs.confirm_prefix_probe.Goals as goal
 
 pub returns-then-alternates-eq0 : goal.returns-then-alternates-eq0

@@ -1,13 +1,10 @@
 -- `probe_confirm::enter_all` meets its contract. Assumes nothing.
-use mathlib.Core.Path.{◌≡◌, refl, sym, ap, subst, ◌∙◌}
-use Prim.Native.Nat.{ℕ, ◌-◌, ◌≤◌, ◌<◌}
-use native.Mathlib.Omega.{arith}
+use mathlib.Core.Path.{◌≡◌}
+use Prim.Native.Nat.{◌-◌, ◌≤◌}
 use lib.ListN.{length, drop}
 use Rattle.model.specs.Layout.{window_of}
-use Rattle.model.specs.Window.{Window}
-use Rattle.laws.specs.Whole.{Whole, Holds, holds_whole}
-use Rattle.probe_confirm.specs.Confirms.{seat_at, enters, enters_step, enters_end}
-use borrow.Author.Rules.{rules}
+use Rattle.laws.specs.Whole.{Whole}
+use Rattle.probe_confirm.specs.Confirms.{enters}
 use Rattle.probe_confirm.proofs.enter_all.Given as goal
 
 abbrev pub invariant-loop-i : goal.invariant-loop-i

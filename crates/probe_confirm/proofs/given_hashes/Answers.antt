@@ -1,14 +1,11 @@
 -- `probe_confirm::given_hashes` meets its contract. Assumes nothing.
-use mathlib.Core.Path.{◌≡◌, refl, sym, ap, ◌∙◌}
-use mathlib.Core.List.{List}
-use Prim.Native.Nat.{ℕ, ◌-◌, ◌*◌, ◌≤◌, ◌<◌}
+use mathlib.Core.Path.{◌≡◌, ap, ◌∙◌}
+use Prim.Native.Nat.{◌-◌}
 use native.Mathlib.Omega.{arith}
-use lib.ListN.{length, get_or}
 use Rattle.model.specs.Hash.{hashes_in}
 use Rattle.plans.specs.Rows.{row_hash}
-use Rattle.probe_hashes.specs.Rows.{Filled, filled_start, filled_step, filled_done}
+use Rattle.probe_hashes.specs.Rows.{filled_start, filled_step, filled_done}
 use Rattle.probe_confirm.specs.Confirms.{given_count, given_row}
-use borrow.Author.Rules.{rules}
 use Rattle.probe_confirm.proofs.given_hashes.Goals as goal
 
 pub loop-i-init : goal.loop-i-init

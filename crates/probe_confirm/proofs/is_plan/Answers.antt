@@ -1,6 +1,5 @@
 -- `probe_confirm::is_plan` meets its contract. Assumes nothing.
-use mathlib.Core.Path.{◌≡◌, refl, sym, ap, ◌∙◌}
-use mathlib.Core.Bool.{Bool, ◌&&◌}
+use mathlib.Core.Path.{◌∙◌}
 use Prim.Native.Nat.{◌*◌}
 use native.Mathlib.Omega.{arith}
 use lib.ListN.{length}
@@ -9,7 +8,6 @@ use Rattle.model.specs.Hash.{hashes_in}
 use Rattle.plans.specs.Rows.{rows_hashes}
 use Rattle.probe_hashes.specs.Rows.{count_hashes}
 use Rattle.probe_confirm.specs.Confirms.{rows_same, given_count}
-use borrow.Author.Rules.{rules}
 use Rattle.probe_confirm.proofs.is_plan.Goals as goal
 
 pub overflow_mul-n : goal.overflow_mul-n

@@ -1,6 +1,5 @@
 -- `probe_confirm::same_row` meets its contract. Assumes nothing.
 use native.Mathlib.Omega.{arith}
-use borrow.Author.Rules.{rules}
 use Rattle.probe_confirm.proofs.same_row.Goals as goal
 
 pub bounds-a-0 : goal.bounds-a-0

@@ -1,13 +1,9 @@
 -- `probe_confirm::same_rows` meets its contract. Assumes nothing.
-use mathlib.Core.Path.{◌≡◌, refl, sym, ap, ◌∙◌}
+use mathlib.Core.Path.{sym, ap, ◌∙◌}
 use mathlib.Core.Bool.{Bool, ◌&&◌}
-use Prim.Native.Nat.{ℕ, ◌+◌, ◌-◌, ◌≤◌, ◌<◌}
+use Prim.Native.Nat.{◌+◌, ◌-◌}
 use native.Mathlib.Omega.{arith}
-use borrow.Author.Tests.{not-true, not-false}
-use Rattle.model.specs.Hash.{same_hashes}
-use Rattle.plans.specs.Rows.{rows_hashes}
 use Rattle.probe_confirm.specs.Confirms.{same_from, same_start, same_step, same_end}
-use borrow.Author.Rules.{rules}
 use Rattle.probe_confirm.proofs.same_rows.Goals as goal
 
 pub loop-i-init : goal.loop-i-init

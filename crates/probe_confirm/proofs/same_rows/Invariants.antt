@@ -1,13 +1,9 @@
 -- `probe_confirm::same_rows` meets its contract. Assumes nothing.
-use mathlib.Core.Path.{◌≡◌, refl, sym, ap, ◌∙◌}
-use mathlib.Core.Bool.{Bool, ◌&&◌}
-use Prim.Native.Nat.{ℕ, ◌+◌, ◌-◌, ◌≤◌, ◌<◌}
-use native.Mathlib.Omega.{arith}
-use borrow.Author.Tests.{not-true, not-false}
+use mathlib.Core.Path.{◌≡◌}
+use Prim.Native.Nat.{◌-◌, ◌≤◌}
 use Rattle.model.specs.Hash.{same_hashes}
 use Rattle.plans.specs.Rows.{rows_hashes}
-use Rattle.probe_confirm.specs.Confirms.{same_from, same_start, same_step, same_end}
-use borrow.Author.Rules.{rules}
+use Rattle.probe_confirm.specs.Confirms.{same_from}
 use Rattle.probe_confirm.proofs.same_rows.Given as goal
 
 abbrev pub invariant-loop-i : goal.invariant-loop-i

@@ -1,5 +1,5 @@
 -- `probe_confirm::set_rows` meets its contract. Assumes nothing.
-use mathlib.Core.Path.{◌≡◌, refl, sym, ap, ◌∙◌}
+use mathlib.Core.Path.{sym, ap, ◌∙◌}
 use Prim.Native.Nat.{◌≤◌}
 use native.Mathlib.Omega.{arith}
 use lib.ListN.{length}
@@ -9,7 +9,6 @@ use Rattle.laws.specs.Groups.{plan_in}
 use Rattle.laws.specs.Whole.{lifted, words_shaped}
 use Rattle.plans.specs.Rows.{rows_words, rows_hashes}
 use Rattle.probe_hashes.specs.Rows.{count_hashes}
-use borrow.Author.Rules.{rules}
 use Rattle.probe_confirm.proofs.set_rows.Goals as goal
 
 pub returns : goal.returns

@@ -1,5 +1,5 @@
 -- `probe_confirm::start_probe` meets its contract. Assumes nothing.
-use mathlib.Core.Path.{◌≡◌, refl, sym, ap, subst, ◌∙◌}
+use mathlib.Core.Path.{◌≡◌, ap, subst, ◌∙◌}
 use mathlib.Core.List.{List}
 use Prim.Native.Nat.{ℕ}
 use native.Mathlib.Omega.{arith}
@@ -14,7 +14,6 @@ use Rattle.model.specs.declared.Source.TheVariants.{From}
 use Rattle.plans.specs.Rows.{rows_hashes}
 use Rattle.probe_confirm.specs.Confirms.{enters}
 use Rattle.laws.specs.Whole.{Holds}
-use borrow.Author.Rules.{rules}
 use Rattle.probe_confirm.proofs.start_probe.Goals as goal
 
 -- the steps before the alternates enter

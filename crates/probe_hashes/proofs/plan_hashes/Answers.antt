@@ -1,16 +1,13 @@
 -- `probe_hashes::plan_hashes` meets its contract. Assumes nothing.
-use mathlib.Core.Path.{◌≡◌, refl, sym, ap, ◌∙◌}
-use mathlib.Core.List.{List}
-use Prim.Native.Nat.{ℕ, ◌-◌, ◌≤◌, ◌<◌}
+use mathlib.Core.Path.{◌≡◌, sym, ap, ◌∙◌}
+use Prim.Native.Nat.{◌-◌, ◌<◌}
 use native.Mathlib.Omega.{arith}
-use lib.ListN.{length, get_or, take}
+use lib.ListN.{take}
 use Rattle.model.specs.Layout.{window_of, planned_words}
-use Rattle.model.specs.declared.Hash.{Hash}
 use Rattle.plans.specs.Rows.{row_hash}
 use Rattle.prefix_probe.specs.Walks.{hashes_at}
 use Rattle.probe_plan.specs.Plans.{count_planned}
-use Rattle.probe_hashes.specs.Rows.{Filled, filled_start, filled_step, filled_done, how_few, plan_list, plan_row}
-use borrow.Author.Rules.{rules}
+use Rattle.probe_hashes.specs.Rows.{filled_start, filled_step, filled_done, how_few, plan_list, plan_row}
 use Rattle.probe_hashes.proofs.plan_hashes.Goals.{In-loop-i}
 use Rattle.probe_hashes.proofs.plan_hashes.Goals as goal
 

@@ -5,7 +5,6 @@ use Rattle.model.specs.Races.{prefix_probe_plan}
 use Rattle.probe_plan.specs.Plans.{header_planned}
 use Rattle.probe_hashes.specs.Rows.{plan_said}
 use Rattle.plans.specs.Rows.{rows_words}
-use borrow.Author.Rules.{rules}
 use Rattle.probe_hashes.proofs.prefix_probe_plan.Goals as goal
 
 pub returns : goal.returns

@@ -5,7 +5,6 @@ use native.Mathlib.Omega.{arith}
 use borrow.Author.Tests.{lt-leb, le-leb}
 use Rattle.model.specs.Races.{win_blocks}
 use Rattle.model.specs.declared.Plan.TheVariants.{Planned}
-use borrow.Author.Rules.{rules}
 use Rattle.probe_plan.proofs.header_of.Goals as goal
 
 pub returns-then-p-lt-WIN_BLOCKS : goal.returns-then-p-lt-WIN_BLOCKS

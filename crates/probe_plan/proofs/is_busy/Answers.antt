@@ -1,8 +1,6 @@
 -- `probe_plan::is_busy` meets its contract. Assumes nothing.
 use mathlib.Core.Path.{ap}
-use borrow.Author.Tests.{not-true, not-false}
 use Rattle.model.specs.declared.Fanout.{Fanout}
-use borrow.Author.Rules.{rules}
 use Rattle.probe_plan.proofs.is_busy.Goals as goal
 
 pub returns-then-not-is_missing : goal.returns-then-not-is_missing

@@ -1,5 +1,4 @@
 -- `probe_plan::is_passed` meets its contract. Assumes nothing.
-use borrow.Author.Rules.{rules}
 use Rattle.probe_plan.proofs.is_passed.Goals as goal
 
 pub returns-then-is_seat : goal.returns-then-is_seat

@@ -1,5 +1,4 @@
 -- `probe_plan::is_seat` meets its contract. Assumes nothing.
-use borrow.Author.Rules.{rules}
 use Rattle.probe_plan.proofs.is_seat.Goals as goal
 
 pub returns-in-From : goal.returns-in-From

@@ -4,7 +4,6 @@ use native.Mathlib.Omega.{arith}
 use Rattle.model.specs.Races.{plan_limit}
 use Rattle.model.specs.Layout.{window_of}
 use Rattle.probe_plan.specs.Plans.{none_plans, walked_plans, lowest_height, plan_busy, plan_none, plan_passed, plan_small, plan_walked}
-use borrow.Author.Rules.{rules}
 use Rattle.probe_plan.proofs.make_plan.Goals as goal
 
 pub returns-then-is_busy : goal.returns-then-is_busy

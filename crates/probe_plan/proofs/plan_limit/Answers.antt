@@ -2,7 +2,6 @@
 use Prim.Native.Nat.{◌/◌}
 use Rattle.model.specs.Races.{plan_limit}
 use Rattle.laws.specs.Numbers.{lesser_le_second}
-use borrow.Author.Rules.{rules}
 use Rattle.probe_plan.proofs.plan_limit.Goals as goal
 
 pub returns : goal.returns

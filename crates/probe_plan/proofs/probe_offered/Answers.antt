@@ -1,9 +1,7 @@
 -- `probe_plan::probe_offered` meets its contract. Assumes nothing.
 use mathlib.Core.Path.{sym, ◌∙◌}
-use borrow.Author.Tests.{not-true, not-false}
 use Rattle.model.specs.Layout.{window_of}
 use Rattle.probe_plan.specs.Plans.{offered_none, offered_other, offered_to}
-use borrow.Author.Rules.{rules}
 use Rattle.probe_plan.proofs.probe_offered.Goals as goal
 
 pub returns-then-not-is_probing : goal.returns-then-not-is_probing

@@ -1,7 +1,6 @@
 -- `probe_race::cool_loser` meets its contract. Assumes nothing.
 use borrow.Author.Tests.{eq-eqb, ne_eqb}
 use Rattle.laws.specs.Whole.{holds_whole}
-use borrow.Author.Rules.{rules}
 use Rattle.probe_race.proofs.cool_loser.Goals as goal
 
 pub returns-then-win-owner : goal.returns-then-win-owner

@@ -3,7 +3,6 @@ use Rattle.model.specs.Window.{with_cold, with_observation}
 use Rattle.model.specs.declared.ColdFront.TheVariants.{Idle}
 use Rattle.model.specs.declared.Observation.TheVariants.{Unarmed}
 use Rattle.rules.specs.Rows.{then}
-use borrow.Author.Rules.{rules}
 use Rattle.probe_race.proofs.end_races.Goals as goal
 
 pub returns : goal.returns

@@ -1,7 +1,6 @@
 -- `probe_race::has_won` meets its contract. Assumes nothing.
 use native.Mathlib.Omega.{arith}
 use Rattle.probe_race.specs.Bits.{not_won, won_by}
-use borrow.Author.Rules.{rules}
 use Rattle.probe_race.proofs.has_won.Goals as goal
 
 pub returns-then-racer-eq0 : goal.returns-then-racer-eq0

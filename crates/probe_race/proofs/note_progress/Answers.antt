@@ -7,7 +7,6 @@ use Rattle.model.specs.Layout.{window_of}
 use Rattle.model.specs.Races.{progressed}
 use Rattle.model.specs.Window.{with_probe}
 use Rattle.rules.specs.Rows.{by_value}
-use borrow.Author.Rules.{rules}
 use Rattle.probe_race.proofs.note_progress.Goals as goal
 
 pub progressed-next-requires : goal.progressed-next-requires

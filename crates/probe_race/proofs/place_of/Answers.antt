@@ -1,6 +1,6 @@
 -- `probe_race::place_of` meets its contract: none of those before i is the hash. Assumes nothing.
 use mathlib.Core.Path.{◌≡◌, sym, ap, ◌∙◌}
-use Prim.Native.Nat.{ℕ, ◌+◌, ◌-◌, ◌≤◌}
+use Prim.Native.Nat.{ℕ, ◌-◌}
 use native.Mathlib.Omega.{arith}
 use native.Mathlib.Numerals.{add-one}
 use lib.ListN.{length, drop}
@@ -9,7 +9,6 @@ use Rattle.model.specs.Races.{place_of}
 use Rattle.model.specs.Layout.{window_of}
 use Rattle.model.specs.declared.Hash.{Hash}
 use Rattle.probe_race.specs.Scans.{place_here, place_on, place_end}
-use borrow.Author.Rules.{rules}
 use Rattle.probe_race.proofs.place_of.Goals as goal
 
 pub loop-i-init : goal.loop-i-init

@@ -1,15 +1,9 @@
 -- `probe_race::place_of` meets its contract: none of those before i is the hash. Assumes nothing.
-use mathlib.Core.Path.{◌≡◌, sym, ap, ◌∙◌}
-use Prim.Native.Nat.{ℕ, ◌+◌, ◌-◌, ◌≤◌}
-use native.Mathlib.Omega.{arith}
-use native.Mathlib.Numerals.{add-one}
+use mathlib.Core.Path.{◌≡◌}
+use Prim.Native.Nat.{◌+◌, ◌-◌, ◌≤◌}
 use lib.ListN.{length, drop}
-use Rattle.model.specs.Hash.{same, hash}
 use Rattle.model.specs.Races.{place_of}
 use Rattle.model.specs.Layout.{window_of}
-use Rattle.model.specs.declared.Hash.{Hash}
-use Rattle.probe_race.specs.Scans.{place_here, place_on, place_end}
-use borrow.Author.Rules.{rules}
 use Rattle.probe_race.proofs.place_of.Given as goal
 
 abbrev pub invariant-loop-i : goal.invariant-loop-i

@@ -1,5 +1,4 @@
 -- `probe_race::race_flag` meets its contract. Assumes nothing.
-use borrow.Author.Rules.{rules}
 use Rattle.probe_race.proofs.race_flag.Goals as goal
 
 pub returns-then-won : goal.returns-then-won

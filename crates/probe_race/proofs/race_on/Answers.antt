@@ -1,6 +1,5 @@
 -- `probe_race::race_on` meets its contract. Assumes nothing.
 use mathlib.Core.Path.{sym, ◌∙◌}
-use borrow.Author.Rules.{rules}
 use Rattle.probe_race.proofs.race_on.Goals as goal
 
 pub returns-then-all_four : goal.returns-then-all_four

@@ -7,7 +7,6 @@ use Rattle.laws.specs.Sound.{Sound, SoundSource}
 use Rattle.laws.specs.Whole.{Holds}
 use Rattle.report_words.specs.Report.{releases_of}
 use Rattle.probe_race.specs.Race.{probe_ranges, noted_sound, race_on_is, race_won_is}
-use borrow.Author.Rules.{rules}
 use Rattle.probe_race.proofs.race_progress.Goals as goal
 
 pub bit_of-bit-requires : goal.bit_of-bit-requires

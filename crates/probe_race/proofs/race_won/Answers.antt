@@ -5,7 +5,6 @@ use Rattle.model.specs.Layout.{window_of}
 use Rattle.model.specs.Window.{Window}
 use Rattle.laws.specs.Whole.{Holds}
 use Rattle.probe_race.specs.Race.{ended_ranged, key_kept, won_window, won_gone}
-use borrow.Author.Rules.{rules}
 use Rattle.probe_race.proofs.race_won.Goals as goal
 
 pub retain_peer_assignments-n-requires : goal.retain_peer_assignments-n-requires

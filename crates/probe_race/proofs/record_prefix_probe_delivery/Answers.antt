@@ -6,7 +6,6 @@ use Rattle.model.specs.Window.{Step}
 use Rattle.laws.specs.Whole.{Holds, holds_whole, words_shaped}
 use Rattle.report_words.specs.Report.{releases_of}
 use Rattle.probe_race.specs.Race.{delivery_none, delivery_other, delivery_planned}
-use borrow.Author.Rules.{rules}
 use Rattle.probe_race.proofs.record_prefix_probe_delivery.Goals as goal
 
 pub returns-in_default : goal.returns-in_default

@@ -1,15 +1,13 @@
 -- `probe_race::winner` meets its contract: none of the seats before s has won. Assumes nothing.
-use mathlib.Core.Path.{◌≡◌, refl, sym, ap, ◌∙◌}
+use mathlib.Core.Path.{refl, sym, ap, ◌∙◌}
 use mathlib.Core.Bool.{true, false}
-use Prim.Native.Nat.{◌-◌, ◌≤◌}
+use Prim.Native.Nat.{◌-◌}
 use native.Mathlib.Omega.{arith}
 use native.Mathlib.Numerals.{add-one}
-use lib.ListN.{drop}
-use Rattle.model.specs.Races.{has_won, winner}
+use Rattle.model.specs.Races.{has_won}
 use Rattle.model.specs.Layout.{window_of}
 use Rattle.laws.specs.Whole.{words_shaped}
 use Rattle.probe_race.specs.Scans.{winner_turn, winner_end}
-use borrow.Author.Rules.{rules}
 use Rattle.probe_race.proofs.winner.Goals as goal
 
 pub loop-seat-init : goal.loop-seat-init

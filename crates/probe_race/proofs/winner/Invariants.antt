@@ -1,15 +1,9 @@
 -- `probe_race::winner` meets its contract: none of the seats before s has won. Assumes nothing.
-use mathlib.Core.Path.{◌≡◌, refl, sym, ap, ◌∙◌}
-use mathlib.Core.Bool.{true, false}
+use mathlib.Core.Path.{◌≡◌}
 use Prim.Native.Nat.{◌-◌, ◌≤◌}
-use native.Mathlib.Omega.{arith}
-use native.Mathlib.Numerals.{add-one}
 use lib.ListN.{drop}
-use Rattle.model.specs.Races.{has_won, winner}
+use Rattle.model.specs.Races.{winner}
 use Rattle.model.specs.Layout.{window_of}
-use Rattle.laws.specs.Whole.{words_shaped}
-use Rattle.probe_race.specs.Scans.{winner_turn, winner_end}
-use borrow.Author.Rules.{rules}
 use Rattle.probe_race.proofs.winner.Given as goal
 
 abbrev pub invariant-loop-seat : goal.invariant-loop-seat

@@ -2,7 +2,6 @@
 use mathlib.Core.Path.{sym, ◌∙◌}
 use Rattle.model.specs.Layout.{window_of}
 use Rattle.capacity.specs.OnNumbers.{capacity_by, compute_request_capacity_by}
-use borrow.Author.Rules.{rules}
 use Rattle.queries.proofs.compute_request_capacity.Goals as goal
 
 pub returns : goal.returns

@@ -1,9 +1,8 @@
 -- `queries::contains_pending` meets its contract. Assumes nothing.
-use mathlib.Core.Path.{sym, subst, ap, ◌∙◌}
+use mathlib.Core.Path.{sym, subst, ap}
 use Rattle.model.specs.Layout.{window_of}
 use Rattle.model.specs.Records.{is_there}
 use Rattle.records.specs.Places.{Finds, here_found, free_found}
-use borrow.Author.Rules.{rules}
 use Rattle.queries.proofs.contains_pending.Goals as goal
 
 pub returns-in-Here : goal.returns-in-Here

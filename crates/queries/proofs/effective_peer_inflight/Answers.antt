@@ -1,7 +1,6 @@
 -- `queries::effective_peer_inflight` meets its contract. Assumes nothing.
 use mathlib.Core.Path.{◌∙◌}
 use Rattle.model.specs.Capacity.{peer_inflight, effective_peer_inflight}
-use borrow.Author.Rules.{rules}
 use Rattle.queries.proofs.effective_peer_inflight.Goals as goal
 
 pub returns : goal.returns

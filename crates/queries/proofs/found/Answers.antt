@@ -3,7 +3,6 @@ use mathlib.Core.Path.{sym, subst, ap, ◌∙◌}
 use Rattle.model.specs.Layout.{window_of}
 use Rattle.model.specs.declared.Front.TheVariants.{At}
 use Rattle.records.specs.Places.{Finds, here_found, free_found}
-use borrow.Author.Rules.{rules}
 use Rattle.queries.proofs.found.Goals as goal
 
 pub entry_at-e-requires : goal.entry_at-e-requires

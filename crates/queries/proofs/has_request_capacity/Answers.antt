@@ -1,7 +1,6 @@
 -- `queries::has_request_capacity` meets its contract. Assumes nothing.
 use mathlib.Core.Path.{◌∙◌}
 use Rattle.model.specs.Capacity.{capacity_left, has_request_capacity}
-use borrow.Author.Rules.{rules}
 use Rattle.queries.proofs.has_request_capacity.Goals as goal
 
 pub returns : goal.returns

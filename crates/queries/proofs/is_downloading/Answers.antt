@@ -2,7 +2,6 @@
 use mathlib.Core.Path.{ap, ◌∙◌}
 use Rattle.model.specs.Numbers.{present}
 use Rattle.model.specs.Seats.{is_downloading}
-use borrow.Author.Rules.{rules}
 use Rattle.queries.proofs.is_downloading.Goals as goal
 
 pub returns : goal.returns

@@ -1,5 +1,4 @@
 -- `queries::pending_owner` meets its contract. Assumes nothing.
-use borrow.Author.Rules.{rules}
 use Rattle.queries.proofs.pending_owner.Goals as goal
 
 pub returns-in-Nothing : goal.returns-in-Nothing

@@ -3,7 +3,6 @@ use mathlib.Core.Path.{ap, ◌∙◌}
 use native.Mathlib.Omega.{arith}
 use Rattle.model.specs.Pace.{stall_decay_floor}
 use Rattle.model.specs.declared.Pace.{Pace}
-use borrow.Author.Rules.{rules}
 use Rattle.queries.proofs.stall_decay_floor.Goals as goal
 
 pub stall_decay_floor-requires : goal.stall_decay_floor-requires

@@ -8,7 +8,6 @@ use Prim.Native.Nat.{ℕ}
 use native.Mathlib.Omega.{arith}
 use Rattle.model.specs.Perform.{says}
 use Rattle.queries.specs.Values.{seated}
-use borrow.Author.Rules.{rules}
 use Rattle.queries.proofs.stalling_peer.Goals as goal
 
 pub key_of-key-requires : goal.key_of-key-requires

@@ -6,7 +6,6 @@ use Rattle.model.specs.Window.{Window}
 use Rattle.laws.specs.Whole.{Holds}
 use Rattle.races.specs.Flags.{flags_long}
 use Rattle.races.specs.Hedges.{probe_ranged, key_kept, lost_window, lost_gone}
-use borrow.Author.Rules.{rules}
 use Rattle.races.proofs.hedge_lost.Goals as goal
 
 pub retain_peer_assignments-n-requires : goal.retain_peer_assignments-n-requires

@@ -1,8 +1,7 @@
 -- `races::raced` meets its contract. Assumes nothing.
 use mathlib.Core.Path.{sym, ◌∙◌}
 use native.Mathlib.Omega.{arith}
-use borrow.Author.Tests.{not-true, not-false, eq-eqb, ne_eqb}
-use borrow.Author.Rules.{rules}
+use borrow.Author.Tests.{eq-eqb, ne_eqb}
 use Rattle.races.proofs.raced.Goals as goal
 
 pub returns-then-not-equal : goal.returns-then-not-equal

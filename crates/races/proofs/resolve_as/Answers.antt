@@ -1,6 +1,5 @@
 -- `races::resolve_as` meets its contract. Assumes nothing.
 use mathlib.Core.Path.{sym, ◌∙◌}
-use borrow.Author.Rules.{rules}
 use Rattle.races.proofs.resolve_as.Goals as goal
 
 pub returns-then-equal : goal.returns-then-equal

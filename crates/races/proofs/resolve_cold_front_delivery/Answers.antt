@@ -1,5 +1,5 @@
 -- `races::resolve_cold_front_delivery` meets its contract. Assumes nothing.
-use mathlib.Core.Path.{◌≡◌, sym, ap, ◌∙◌, subst}
+use mathlib.Core.Path.{sym, ap, ◌∙◌, subst}
 use native.Mathlib.Omega.{arith}
 use Rattle.model.specs.Layout.{window_of}
 use Rattle.model.specs.Races.{hedge_lost}
@@ -11,7 +11,6 @@ use Rattle.laws.specs.Whole.{Holds, holds_whole}
 use Rattle.report_words.specs.Report.{releases_of}
 use Rattle.races.specs.declared.Resolution.{Resolution}
 use Rattle.races.specs.Hedges.{resolved, Seated, resolved_is}
-use borrow.Author.Rules.{rules}
 use Rattle.races.proofs.resolve_cold_front_delivery.Goals as goal
 
 pub hedge_lost-requires : goal.hedge_lost-requires

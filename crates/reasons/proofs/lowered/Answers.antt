@@ -1,6 +1,5 @@
 -- `reasons::lowered` meets its contract. Assumes nothing.
 use mathlib.Core.Path.{sym, ◌∙◌}
-use borrow.Author.Rules.{rules}
 use Rattle.model.specs.Reasons.{lowered}
 use Rattle.reasons.proofs.lowered.Goals as goal
 

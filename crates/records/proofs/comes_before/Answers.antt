@@ -2,7 +2,6 @@
 use mathlib.Core.Path.{ap, ◌∙◌}
 use Rattle.model.specs.Hash.{less}
 use Rattle.model.specs.declared.Hash.{Hash}
-use borrow.Author.Rules.{rules}
 use Rattle.records.proofs.comes_before.Goals as goal
 
 pub returns : goal.returns

@@ -2,7 +2,6 @@
 use Rattle.records.proofs.Words.{entry_words}
 use Rattle.laws.specs.Tables.{entry_decode}
 use mathlib.Core.Path.{sym, ◌∙◌}
-use borrow.Author.Rules.{rules}
 use Rattle.records.proofs.entry_of.Goals as goal
 
 pub returns : goal.returns

@@ -1,6 +1,5 @@
 -- `records::field_of` meets its contract. Assumes nothing.
 use Rattle.records.proofs.Words.{field_words}
-use borrow.Author.Rules.{rules}
 use Rattle.records.proofs.field_of.Goals as goal
 
 pub returns : goal.returns

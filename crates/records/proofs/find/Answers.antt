@@ -10,7 +10,6 @@ use Rattle.model.specs.Layout.{blank, entry_at, rows, decode}
 use Rattle.laws.specs.Rows.{length_live, live_at}
 use Rattle.model.specs.declared.Entry.{Entry}
 use Rattle.model.specs.declared.Hash.{Hash}
-use borrow.Author.Rules.{rules}
 use Rattle.records.proofs.find.Goals as goal
 
 -- the record at k

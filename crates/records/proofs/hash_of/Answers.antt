@@ -1,6 +1,5 @@
 -- `records::hash_of` meets its contract. Assumes nothing.
 use Rattle.records.proofs.Words.{hash_words}
-use borrow.Author.Rules.{rules}
 use Rattle.records.proofs.hash_of.Goals as goal
 
 pub returns : goal.returns

@@ -2,11 +2,10 @@
 use Rattle.column.specs.Edits.{inserted}
 use Rattle.laws.specs.Rows.{mid}
 use Rattle.laws.specs.Tables.{put_col, decode_put_in}
-use Rattle.laws.specs.Rows.{Upto, upto_start, upto_call}
+use Rattle.laws.specs.Rows.{upto_start, upto_call}
 use mathlib.Core.Path.{ap, ◌∙◌}
-use Prim.Native.Nat.{ℕ, ◌-◌, ◌≤◌}
+use Prim.Native.Nat.{ℕ, ◌-◌}
 use native.Mathlib.Omega.{arith}
-use borrow.Author.Rules.{rules}
 use Rattle.records.proofs.Live.{mid_long, mid_blank, all_columns}
 use Rattle.records.proofs.insert.Goals as goal
 

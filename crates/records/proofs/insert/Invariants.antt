@@ -1,13 +1,7 @@
 -- `records::insert` meets its contract. Assumes nothing.
-use Rattle.column.specs.Edits.{inserted}
-use Rattle.laws.specs.Rows.{mid}
-use Rattle.laws.specs.Tables.{put_col, decode_put_in}
-use Rattle.laws.specs.Rows.{Upto, upto_start, upto_call}
-use mathlib.Core.Path.{ap, ◌∙◌}
-use Prim.Native.Nat.{ℕ, ◌-◌, ◌≤◌}
-use native.Mathlib.Omega.{arith}
-use borrow.Author.Rules.{rules}
-use Rattle.records.proofs.Live.{mid_long, mid_blank, all_columns}
+use Rattle.laws.specs.Tables.{put_col}
+use Rattle.laws.specs.Rows.{Upto}
+use Prim.Native.Nat.{◌-◌, ◌≤◌}
 use Rattle.records.proofs.insert.Given as goal
 
 abbrev pub invariant-loop-k : goal.invariant-loop-k

@@ -1,7 +1,6 @@
 -- `records::insert_live` meets its contract. Assumes nothing.
 use Prim.Native.Nat.{◌+◌, ◌-◌}
 use native.Mathlib.Omega.{arith}
-use borrow.Author.Rules.{rules}
 use Rattle.records.proofs.Live.{insert_part}
 use Rattle.records.proofs.insert_live.Goals as goal
 

@@ -1,7 +1,7 @@
 -- `records::keep` meets its contract: at the loop's head the columns below k are done. Assumes nothing.
-use Prim.Native.Nat.{◌-◌, ◌≤◌}
+use Prim.Native.Nat.{◌-◌}
 use native.Mathlib.Omega.{arith}
-use Rattle.laws.specs.Rows.{Upto, upto_start, upto_call}
+use Rattle.laws.specs.Rows.{upto_start, upto_call}
 use Rattle.laws.specs.Tables.{kept_col, decode_kept}
 use Rattle.records.proofs.Live.{all_columns}
 use Rattle.records.proofs.keep.Goals as goal

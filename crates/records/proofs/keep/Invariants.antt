@@ -1,9 +1,7 @@
 -- `records::keep` meets its contract: at the loop's head the columns below k are done. Assumes nothing.
 use Prim.Native.Nat.{◌-◌, ◌≤◌}
-use native.Mathlib.Omega.{arith}
-use Rattle.laws.specs.Rows.{Upto, upto_start, upto_call}
-use Rattle.laws.specs.Tables.{kept_col, decode_kept}
-use Rattle.records.proofs.Live.{all_columns}
+use Rattle.laws.specs.Rows.{Upto}
+use Rattle.laws.specs.Tables.{kept_col}
 use Rattle.records.proofs.keep.Given as goal
 
 abbrev pub invariant-loop-k : goal.invariant-loop-k

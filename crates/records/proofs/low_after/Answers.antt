@@ -1,6 +1,5 @@
 -- `records::low_after` meets its contract. Assumes nothing.
 use borrow.Author.Tests.{eq-eqb, ne_eqb}
-use borrow.Author.Rules.{rules}
 use Rattle.records.proofs.low_after.Goals as goal
 
 pub returns-then-o-owner : goal.returns-then-o-owner

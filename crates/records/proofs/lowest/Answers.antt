@@ -3,7 +3,6 @@ use mathlib.Core.Path.{sym, ap, ◌∙◌}
 use borrow.Author.Tests.{lt-ltb, le-ltb}
 use Rattle.model.specs.declared.Front.TheVariants.{At}
 use Rattle.records.specs.Places.{front_at}
-use borrow.Author.Rules.{rules}
 use Rattle.records.proofs.lowest.Goals as goal
 
 pub returns-then-at-count : goal.returns-then-at-count

@@ -1,17 +1,12 @@
 -- `records::lowest_place` meets its contract: at the loop's head `best` is the place of the lowest from i on. Assumes nothing.
-use mathlib.Core.Path.{◌≡◌, refl, sym, ap, ◌∙◌}
+use mathlib.Core.Path.{◌≡◌}
 use mathlib.Core.List.{List}
-use Prim.Native.Nat.{ℕ, suc, ◌+◌, ◌-◌, ◌≤◌, ◌<◌}
-use native.Mathlib.Omega.{arith}
-use lib.ListN.{take, drop, get_or}
-use borrow.Author.Tests.{lt-ltb, le-ltb, le-leb, lt-leb}
+use Prim.Native.Nat.{ℕ, ◌-◌, ◌≤◌, ◌<◌}
+use lib.ListN.{take, drop}
 use Rattle.model.specs.Lists.{count}
-use Rattle.model.specs.Records.{lowest, lower}
-use Rattle.model.specs.Layout.{entry_at, rows, decode}
-use Rattle.laws.specs.Rows.{rows_at, live_cons, live_end, word_at}
-use Rattle.model.specs.declared.Front.{Front}
-use Rattle.model.specs.declared.Front.TheVariants.{At, Nothing}
-use Rattle.records.specs.Places.{front_at}
+use Rattle.model.specs.Records.{lowest}
+use Rattle.model.specs.Layout.{entry_at, rows}
+use Rattle.model.specs.declared.Front.TheVariants.{At}
 use Rattle.records.proofs.lowest_place.Given as goal
 
 -- from i on: no record yet, or the lowest is at `best`

@@ -3,17 +3,16 @@
 use mathlib.Core.Path.{◌≡◌, sym, ap, ◌∙◌}
 use mathlib.Core.Bool.{true, false}
 use mathlib.Core.List.{List}
-use Prim.Native.Nat.{ℕ, suc, ◌+◌, ◌-◌, ◌/◌, ◌≤◌, ◌<◌}
+use Prim.Native.Nat.{ℕ, ◌+◌, ◌-◌, ◌/◌, ◌≤◌, ◌<◌}
 use native.Mathlib.Omega.{arith}
-use lib.ListN.{length, take, drop, get_or}
-use borrow.Author.Rules.{rules}
+use lib.ListN.{length, drop, get_or}
 use Rattle.model.specs.Lists.{count}
 use Rattle.model.specs.Hash.{same, less}
-use Rattle.model.specs.Layout.{blank, entry_at, rows, decode}
+use Rattle.model.specs.Layout.{blank, entry_at, decode}
 use Rattle.laws.specs.Rows.{length_live, live_at}
 use Rattle.model.specs.declared.Entry.{Entry}
 use Rattle.model.specs.declared.Hash.{Hash}
-use Rattle.records.proofs.parting.Invariants.{L, Inv}
+use Rattle.records.proofs.parting.Invariants.{L}
 use Rattle.records.proofs.parting.Goals as goal
 
 -- the record at k

@@ -1,16 +1,13 @@
 -- `records::parting` meets its contract: at the loop's head the record before `lo` comes before the hash, and the one at `hi` does not. Assumes
 -- nothing.
-use mathlib.Core.Path.{◌≡◌, sym, ap, ◌∙◌}
+use mathlib.Core.Path.{◌≡◌}
 use mathlib.Core.Bool.{true, false}
 use mathlib.Core.List.{List}
-use Prim.Native.Nat.{ℕ, suc, ◌+◌, ◌-◌, ◌/◌, ◌≤◌, ◌<◌}
-use native.Mathlib.Omega.{arith}
-use lib.ListN.{length, take, drop, get_or}
-use borrow.Author.Rules.{rules}
+use Prim.Native.Nat.{ℕ, suc, ◌-◌, ◌≤◌, ◌<◌}
+use lib.ListN.{take, get_or}
 use Rattle.model.specs.Lists.{count}
-use Rattle.model.specs.Hash.{same, less}
-use Rattle.model.specs.Layout.{blank, entry_at, rows, decode}
-use Rattle.laws.specs.Rows.{length_live, live_at}
+use Rattle.model.specs.Hash.{less}
+use Rattle.model.specs.Layout.{blank, rows}
 use Rattle.model.specs.declared.Entry.{Entry}
 use Rattle.model.specs.declared.Hash.{Hash}
 use Rattle.records.proofs.parting.Given as goal

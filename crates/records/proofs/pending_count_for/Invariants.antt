@@ -1,17 +1,10 @@
 -- `records::pending_count_for` meets its contract: at the loop's head `n` is the count from i on. Assumes nothing.
-use mathlib.Core.Path.{◌≡◌, sym, ap, ◌∙◌}
-use mathlib.Core.Bool.{Bool, true, false, cond}
-use mathlib.Core.List.{List}
-use Prim.Native.Nat.{ℕ, suc, ◌+◌, ◌-◌, ◌≤◌, ◌<◌}
-use native.Mathlib.Omega.{arith}
-use native.Mathlib.Numerals.{add-one}
-use lib.ListN.{take, drop, get_or}
-use lib.Dec.{eqb}
-use borrow.Author.Tests.{eq-eqb, ne_eqb}
+use mathlib.Core.Path.{◌≡◌}
+use Prim.Native.Nat.{◌+◌, ◌-◌, ◌≤◌}
+use lib.ListN.{take, drop}
 use Rattle.model.specs.Lists.{count}
-use Rattle.model.specs.Records.{owned_by, pending_count_for}
-use Rattle.model.specs.Layout.{entry_at, rows, decode}
-use Rattle.laws.specs.Rows.{live_cons, live_end, word_at}
+use Rattle.model.specs.Records.{pending_count_for}
+use Rattle.model.specs.Layout.{rows}
 use Rattle.records.proofs.pending_count_for.Given as goal
 
 abbrev pub invariant-loop-i : goal.invariant-loop-i

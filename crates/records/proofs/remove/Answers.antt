@@ -1,7 +1,7 @@
 -- `records::remove` meets its contract: at the loop's head the columns below k are done. Assumes nothing.
-use Prim.Native.Nat.{◌-◌, ◌≤◌}
+use Prim.Native.Nat.{◌-◌}
 use native.Mathlib.Omega.{arith}
-use Rattle.laws.specs.Rows.{Upto, upto_start, upto_call}
+use Rattle.laws.specs.Rows.{upto_start, upto_call}
 use Rattle.laws.specs.Tables.{removed_col, decode_removed}
 use Rattle.records.proofs.Live.{mid_long, mid_blank, all_columns}
 use Rattle.records.proofs.remove.Goals as goal

@@ -1,7 +1,6 @@
 -- `records::remove_live` meets its contract. Assumes nothing.
 use Prim.Native.Nat.{◌-◌}
 use native.Mathlib.Omega.{arith}
-use borrow.Author.Rules.{rules}
 use Rattle.records.proofs.Live.{remove_part}
 use Rattle.records.proofs.remove_live.Goals as goal
 

@@ -1,17 +1,10 @@
 -- `records::was_front` meets its contract: what holds of all the records holds of those from i on. Assumes nothing.
-use mathlib.Core.Path.{◌≡◌, refl, sym, ap, ◌∙◌}
-use mathlib.Core.Bool.{Bool, true, false, ◌&&◌}
-use mathlib.Core.List.{List}
-use Prim.Native.Nat.{ℕ, suc, ◌+◌, ◌-◌, ◌≤◌, ◌<◌}
-use native.Mathlib.Omega.{arith}
-use native.Mathlib.Numerals.{add-one}
-use lib.ListN.{take, drop, get_or}
-use lib.Dec.{ltb}
-use borrow.Author.Tests.{lt-ltb, le-ltb}
-use Rattle.model.specs.Lists.{all, count}
+use mathlib.Core.Path.{◌≡◌}
+use Prim.Native.Nat.{◌-◌, ◌≤◌}
+use lib.ListN.{take, drop}
+use Rattle.model.specs.Lists.{count}
 use Rattle.model.specs.Pace.{was_front}
-use Rattle.model.specs.Layout.{entry_at, rows, decode}
-use Rattle.laws.specs.Rows.{live_cons, live_end, word_at}
+use Rattle.model.specs.Layout.{rows}
 use Rattle.records.proofs.was_front.Given as goal
 
 abbrev pub invariant-loop-i : goal.invariant-loop-i

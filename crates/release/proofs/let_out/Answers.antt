@@ -1,21 +1,9 @@
 -- `release::let_out` meets its contract. Assumes nothing.
-use mathlib.Core.Path.{◌≡◌, sym, ap, ◌∙◌, subst}
-use Prim.Native.Nat.{ℕ, ◌≤◌, ◌<◌}
-use Rattle.model.specs.Numbers.{max_clock}
+use mathlib.Core.Path.{sym, ap, ◌∙◌, subst}
 use Rattle.model.specs.Reasons.{lowered}
-use Rattle.model.specs.Layout.{blank, window_of}
-use Rattle.model.specs.declared.Entry.{Entry}
 use Rattle.laws.specs.Sound.{InRange}
 use Rattle.release.specs.Removes.{at_range, at_total, out_holds}
-use borrow.Author.Rules.{rules}
 use native.Mathlib.Omega.{arith}
-use Rattle.release.proofs.let_out.Reads as reads
-use Rattle.release.proofs.let_out.Lts as lts
-use Rattle.reasons.proofs.lowered.Reads as lowered-reads
-use Rattle.state.proofs.get_frontier.Reads as get-frontier-reads
-use Rattle.state.proofs.set_frontier.Reads as set-frontier-reads
-use Rattle.state_queue.proofs.reset_owner_queue_start.Reads as reset-owner-queue-start-reads
-use Rattle.state_queue.proofs.take_out.Reads as take-out-reads
 use Rattle.release.proofs.let_out.Goals as goal
 
 pub take_out-requires : goal.take_out-requires

@@ -1,17 +1,10 @@
 -- `release::lower_to` meets its contract. Assumes nothing.
-use mathlib.Core.Path.{◌≡◌, refl, sym, ap, ◌∙◌, subst}
+use mathlib.Core.Path.{sym, subst}
 use Rattle.model.specs.LettingGo.{lower_to}
 use Rattle.model.specs.Layout.{window_of}
 use Rattle.model.specs.declared.Height.{Height}
-use Rattle.model.specs.declared.Height.TheVariants.{Unknown, Known}
 use Rattle.laws.specs.Whole.{Holds, holds_whole}
 use Rattle.release.specs.Removes.{lowered_holds}
-use borrow.Author.Rules.{rules}
-use Rattle.release.proofs.lower_to.Reads as reads
-use Rattle.release.proofs.lower_to.Lts as lts
-use Rattle.numbers.proofs.lesser.Reads as lesser-reads
-use Rattle.state.proofs.get_frontier.Reads as get-frontier-reads
-use Rattle.state.proofs.set_frontier.Reads as set-frontier-reads
 use Rattle.release.proofs.lower_to.Goals as goal
 
 pub returns-in-Unknown : goal.returns-in-Unknown

@@ -1,18 +1,9 @@
 -- `release::remove_pending` meets its contract. Assumes nothing.
-use mathlib.Core.Path.{◌≡◌, sym, ap, ◌∙◌, subst}
-use Rattle.model.specs.Layout.{blank, window_of}
+use mathlib.Core.Path.{subst}
+use Rattle.model.specs.Layout.{window_of}
 use Rattle.records.specs.Places.{Finds}
-use Rattle.records.specs.declared.Place.{Place}
-use Rattle.records.specs.declared.Place.TheVariants.{Here, Free}
 use Rattle.release.specs.Removes.{removed_holds, stays_held}
-use borrow.Author.Rules.{rules}
 use native.Mathlib.Omega.{arith}
-use Rattle.release.proofs.remove_pending.Reads as reads
-use Rattle.release.proofs.remove_pending.Lts as lts
-use Rattle.release.proofs.let_out.Reads as let-out-reads
-use Rattle.report_words.proofs.put_release.Reads as put-release-reads
-use Rattle.state_queue.proofs.entry_at.Reads as entry-at-reads
-use Rattle.state_queue.proofs.find.Reads as find-reads
 use Rattle.release.proofs.remove_pending.Goals as goal
 
 pub entry_at-e-requires : goal.entry_at-e-requires

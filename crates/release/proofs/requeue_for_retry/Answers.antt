@@ -2,11 +2,6 @@
 use Rattle.model.specs.LettingGo.{remove_pending, requeue_for_retry}
 use Rattle.model.specs.Layout.{window_of}
 use Rattle.release.specs.Removes.{then_lowered}
-use borrow.Author.Rules.{rules}
-use Rattle.release.proofs.requeue_for_retry.Reads as reads
-use Rattle.release.proofs.requeue_for_retry.Lts as lts
-use Rattle.release.proofs.lower_to.Reads as lower-to-reads
-use Rattle.release.proofs.remove_pending.Reads as remove-pending-reads
 use Rattle.release.proofs.requeue_for_retry.Goals as goal
 
 pub lower_to-requires : goal.lower_to-requires

@@ -1,9 +1,8 @@
 -- `report_first::make_room` meets its contract. Assumes nothing.
-use mathlib.Core.Path.{◌≡◌, refl, ◌∙◌}
-use Prim.Native.Nat.{◌≤◌, ◌<◌, ◌-◌}
+use Prim.Native.Nat.{◌-◌}
 use native.Mathlib.Omega.{arith}
-use lib.ListN.{length, length-set}
-use Rattle.report_first.specs.Fronts.{Moved, moved_start, moved_more}
+use lib.ListN.{length-set}
+use Rattle.report_first.specs.Fronts.{moved_start, moved_more}
 use Rattle.report_first.proofs.make_room.Goals as goal
 
 pub loop-i-init : goal.loop-i-init

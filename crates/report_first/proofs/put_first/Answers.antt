@@ -1,11 +1,6 @@
 -- `report_first::put_first` meets its contract. Assumes nothing.
-use mathlib.Core.Path.{subst, ap, ◌∙◌}
-use mathlib.Core.List.{List, ◌∷◌}
-use Prim.Native.Nat.{ℕ, suc}
-use lib.ListN.{length}
-use Rattle.report_words.specs.Report.{release_from, releases_of}
+use mathlib.Core.Path.{◌∙◌}
 use Rattle.report_first.specs.Fronts.{front_put}
-use borrow.Author.Rules.{rules}
 use Rattle.report_first.proofs.put_first.Goals as goal
 
 pub returns : goal.returns

@@ -13,10 +13,6 @@ use Rattle.laws.specs.Rows.{length_live, live_end}
 use Rattle.laws.specs.Marks.{gone_by, gone_one, gone_none, gone_end}
 use Rattle.report_words.specs.Report.{releases_of}
 use native.Mathlib.Omega.{arith}
-use Rattle.report_words.proofs.gather.Reads as reads
-use Rattle.report_words.proofs.gather.Lts as lts
-use Rattle.records.proofs.entry_of.Reads as entry-of-reads
-use Rattle.report_words.proofs.put_release.Reads as put-release-reads
 use Rattle.report_words.proofs.gather.Invariants.{Inv}
 use Rattle.report_words.proofs.gather.Goals as goal
 

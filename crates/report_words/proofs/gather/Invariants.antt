@@ -1,22 +1,11 @@
 -- `report_words::gather` meets its contract: at the loop's head what was gathered, and what is left to gather from i on, is all that goes. Assumes nothing.
-use mathlib.Core.Path.{◌≡◌, refl, sym, ap, ◌∙◌}
-use mathlib.Core.List.{List, [], ◌∷◌, ◌++◌, append_assoc, append-nil}
-use Prim.Native.Nat.{ℕ, suc, ◌+◌, ◌-◌, ◌≤◌, ◌<◌}
-use native.Mathlib.Numerals.{add-one}
-use lib.ListN.{length, take, drop, get_or}
-use lib.Seq.{get_or-take}
-use Rattle.model.specs.Reasons.{release}
-use Rattle.model.specs.Layout.{blank, decode, rows}
-use Rattle.model.specs.declared.Entry.{Entry}
-use Rattle.model.specs.declared.Release.{Release}
-use Rattle.laws.specs.Rows.{length_live, live_end}
-use Rattle.laws.specs.Marks.{gone_by, gone_one, gone_none, gone_end}
+use mathlib.Core.Path.{◌≡◌}
+use mathlib.Core.List.{List, ◌++◌}
+use Prim.Native.Nat.{ℕ, ◌+◌, ◌-◌, ◌≤◌}
+use lib.ListN.{length, take, drop}
+use Rattle.model.specs.Layout.{decode}
+use Rattle.laws.specs.Marks.{gone_by}
 use Rattle.report_words.specs.Report.{releases_of}
-use native.Mathlib.Omega.{arith}
-use Rattle.report_words.proofs.gather.Reads as reads
-use Rattle.report_words.proofs.gather.Lts as lts
-use Rattle.records.proofs.entry_of.Reads as entry-of-reads
-use Rattle.report_words.proofs.put_release.Reads as put-release-reads
 use Rattle.report_words.proofs.gather.Given as goal
 
 pub record Inv (ws : List ℕ) (m : ℕ) (ms old new : List ℕ) (i n : ℕ) : Type 0 where

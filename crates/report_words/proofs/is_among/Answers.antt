@@ -1,17 +1,14 @@
 -- `report_words::is_among` meets its contract: at the loop's head `found` is said of the first i. Assumes nothing.
-use mathlib.Core.Path.{◌≡◌, refl, sym, ap, ◌∙◌}
-use mathlib.Core.Bool.{Bool, ◌||◌}
+use mathlib.Core.Path.{◌≡◌, refl, sym, ◌∙◌}
+use mathlib.Core.Bool.{Bool}
 use mathlib.Core.List.{List}
-use Prim.Native.Nat.{ℕ, suc, ◌+◌, ◌-◌, ◌≤◌}
+use Prim.Native.Nat.{ℕ, suc, ◌-◌}
 use native.Mathlib.Numerals.{add-one}
 use Rattle.model.specs.Lists.{any}
 use Rattle.model.specs.LettingGo.{is_entry}
 use Rattle.model.specs.declared.Hash.{Hash}
 use Rattle.report_words.specs.Report.{release_at, releases_of, any_more}
 use native.Mathlib.Omega.{arith}
-use Rattle.report_words.proofs.is_among.Reads as reads
-use Rattle.report_words.proofs.is_among.Lts as lts
-use Rattle.report_words.proofs.is_entry.Reads as is-entry-reads
 use Rattle.report_words.proofs.is_among.Goals as goal
 
 turn : (core : List ℕ) (i owner : ℕ) (h : Hash) (found hit : Bool) → found ≡ any (is_entry owner h) (releases_of i core) → hit ≡ is_entry owner h (release_at core i)

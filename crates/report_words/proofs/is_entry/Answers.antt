@@ -1,14 +1,10 @@
 -- `report_words::is_entry` meets its contract. Assumes nothing.
-use mathlib.Core.Path.{◌≡◌, refl, ap, ◌∙◌}
+use mathlib.Core.Path.{ap}
 use mathlib.Core.Bool.{Bool, ◌&&◌}
 use Prim.Native.Nat.{◌+◌, ◌*◌}
 use lib.ListN.{get_or}
 use lib.Dec.{eqb}
 use Rattle.model.specs.LettingGo.{is_entry}
-use borrow.Author.Rules.{rules}
-use Rattle.report_words.proofs.is_entry.Reads as reads
-use Rattle.report_words.proofs.is_entry.Lts as lts
-use Rattle.hash.proofs.equal.Reads as equal-reads
 use Rattle.report_words.proofs.is_entry.Goals as goal
 
 pub returns : goal.returns

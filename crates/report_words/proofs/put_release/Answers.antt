@@ -2,12 +2,7 @@
 use mathlib.Core.Path.{◌∙◌}
 use Prim.Native.Nat.{◌+◌, ◌-◌, ◌*◌}
 use Rattle.report_words.specs.Report.{release_put}
-use borrow.Author.Rules.{rules}
 use native.Mathlib.Omega.{arith}
-use Rattle.report_words.proofs.put_release.Reads as reads
-use Rattle.report_words.proofs.put_release.Lts as lts
-use Rattle.column.proofs.copy_over.Reads as copy-over-reads
-use Rattle.report_words.proofs.nine.Reads as nine-reads
 use Rattle.report_words.proofs.put_release.Goals as goal
 
 pub returns : goal.returns

@@ -1,14 +1,9 @@
 -- `request_calls::listed_once` meets its contract. Assumes nothing.
-use mathlib.Core.Path.{◌≡◌, refl}
-use Prim.Native.Nat.{◌+◌, ◌-◌}
-use native.Mathlib.Omega.{arith}
+use mathlib.Core.Path.{◌≡◌}
+use Prim.Native.Nat.{◌-◌}
 use lib.ListN.{drop}
 use Rattle.model.specs.Calls.{asks_in}
 use Rattle.model.specs.Refusals.{listed_once}
-use Rattle.model.specs.declared.Hash.{Hash}
-use Rattle.request_calls.specs.Listed.{listed, seen, once_not, once_more, once_all}
-use borrow.Author.Rules.{rules}
-use Rattle.request_calls.proofs.Asked.{AskAt, ask_there, ask_none}
 use Rattle.request_calls.proofs.listed_once.Given as goal
 
 abbrev pub invariant-loop-i : goal.invariant-loop-i

@@ -1,11 +1,8 @@
 -- `request_calls::request` meets its contract. Assumes nothing.
-use mathlib.Core.Path.{◌≡◌, refl, subst}
 use mathlib.Core.Bool.{true, false}
-use Prim.Native.Nat.{ℕ}
 use Rattle.model.specs.Calls.{asks_in}
 use Rattle.model.specs.Layout.{window_of}
 use Rattle.request_calls.specs.Answer.{answers_refused, answers}
-use borrow.Author.Rules.{rules}
 use Rattle.request_calls.proofs.request.Goals as goal
 
 pub request_list-k-requires : goal.request_list-k-requires

@@ -1,12 +1,10 @@
 -- `request_calls::request_each` meets its contract. Assumes nothing.
-use mathlib.Core.Path.{◌≡◌, refl, sym, subst, ◌∙◌}
-use Prim.Native.Nat.{ℕ}
+use mathlib.Core.Path.{refl, sym, ◌∙◌}
 use Rattle.model.specs.Calls.{asks_in}
 use Rattle.model.specs.Layout.{window_of}
 use Rattle.laws.specs.Kept.{requestable_is}
 use Rattle.laws.specs.Whole.{sound_rises}
 use Rattle.request_calls.specs.Answer.{stays}
-use borrow.Author.Rules.{rules}
 use Rattle.request_calls.proofs.request_each.Goals as goal
 
 pub request_refusal-k-requires : goal.request_refusal-k-requires

@@ -1,5 +1,5 @@
 -- `request_calls::request_in_order` meets its contract. Assumes nothing.
-use mathlib.Core.Path.{◌≡◌, refl, sym, subst, ◌∙◌}
+use mathlib.Core.Path.{sym}
 use Prim.Native.Nat.{◌+◌}
 use native.Mathlib.Omega.{arith}
 use Rattle.model.specs.Calls.{asks_in}

@@ -1,9 +1,7 @@
 -- `request_calls::request_list` meets its contract. Assumes nothing.
-use mathlib.Core.Path.{◌≡◌, sym, ◌∙◌}
-use native.Mathlib.Omega.{arith}
+use mathlib.Core.Path.{sym, ◌∙◌}
 use Rattle.requests.specs.Asks.{asks_length}
 use Rattle.request_order.specs.Order.{many_fit}
-use borrow.Author.Rules.{rules}
 use Rattle.request_calls.proofs.request_list.Goals as goal
 
 pub request_one-requires : goal.request_one-requires

@@ -1,5 +1,5 @@
 -- `request_calls::request_one` meets its contract. Assumes nothing.
-use mathlib.Core.Path.{◌≡◌, refl, sym, subst, ◌∙◌}
+use mathlib.Core.Path.{refl, sym, subst}
 use native.Mathlib.Omega.{arith}
 use Rattle.model.specs.Calls.{asks_in}
 use Rattle.model.specs.Layout.{window_of}
@@ -10,7 +10,6 @@ use Rattle.records.specs.Places.{Finds}
 use Rattle.records.specs.declared.Place.TheVariants.{Free}
 use Rattle.requests.specs.Asks.{asks_within}
 use Rattle.request_calls.specs.Answer.{stays, one_there, one_full, one_good}
-use borrow.Author.Rules.{rules}
 use Rattle.request_calls.proofs.request_one.Goals as goal
 
 pub hash_in-h-requires : goal.hash_in-h-requires

@@ -1,13 +1,10 @@
 -- `request_calls::request_refusal` meets its contract. Assumes nothing.
-use mathlib.Core.Path.{◌≡◌, sym, ◌∙◌}
+use mathlib.Core.Path.{sym, ◌∙◌}
 use native.Mathlib.Omega.{arith}
-use borrow.Author.Tests.{not-true, not-false}
-use lib.ListN.{length}
 use Rattle.model.specs.Calls.{asks_in}
 use Rattle.model.specs.Layout.{window_of}
 use Rattle.requests.specs.Asks.{asks_length}
 use Rattle.request_calls.specs.Listed.{list_pending, list_twice, list_many, list_good}
-use borrow.Author.Rules.{rules}
 use Rattle.request_calls.proofs.request_refusal.Goals as goal
 
 pub none_pending-requires : goal.none_pending-requires

@@ -1,8 +1,6 @@
 -- `request_many::fill` meets its contract: at the loop's head the rows from j on are written. Assumes nothing.
-use mathlib.Core.Path.{◌≡◌, subst, ◌∙◌}
-use Prim.Native.Nat.{ℕ, ◌-◌}
-use native.Mathlib.Omega.{arith}
-use Rattle.request_many.specs.Fill.{Filled, filled_start, filled_turn}
+use Prim.Native.Nat.{◌-◌}
+use Rattle.request_many.specs.Fill.{Filled}
 use Rattle.request_many.proofs.fill.Given as goal
 
 abbrev pub invariant-loop-j : goal.invariant-loop-j

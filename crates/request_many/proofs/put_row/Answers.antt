@@ -1,10 +1,9 @@
 -- `request_many::put_row` meets its contract: at the loop's head the columns below k are done. Assumes nothing.
 use mathlib.Core.Path.{ap, ◌∙◌}
-use Prim.Native.Nat.{ℕ, ◌-◌, ◌≤◌}
+use Prim.Native.Nat.{ℕ, ◌-◌}
 use native.Mathlib.Omega.{arith}
 use lib.ListN.{set}
-use borrow.Author.Rules.{rules}
-use Rattle.laws.specs.Rows.{mid, Upto, upto_start, upto_call}
+use Rattle.laws.specs.Rows.{mid, upto_start, upto_call}
 use Rattle.records.proofs.Live.{mid_long, all_columns}
 use Rattle.request_many.specs.Fill.{set_col, decode_set}
 use Rattle.request_many.proofs.put_row.Goals as goal

@@ -3,7 +3,6 @@ use mathlib.Core.Path.{ap, ◌∙◌}
 use native.Mathlib.Omega.{arith}
 use Prim.Native.Nat.{◌-◌}
 use lib.ListN.{get_or}
-use borrow.Author.Rules.{rules}
 use Rattle.model.specs.Records.{new_entry}
 use Rattle.model.specs.Layout.{decode}
 use Rattle.model.specs.declared.Hash.{Hash}

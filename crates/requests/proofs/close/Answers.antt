@@ -1,7 +1,6 @@
 -- `requests::close` meets its contract. Assumes nothing.
 use Rattle.requests.specs.Rows.{risen}
 use Rattle.rules.specs.Rows.{then}
-use borrow.Author.Rules.{rules}
 use Rattle.requests.proofs.close.Goals as goal
 
 pub returns : goal.returns

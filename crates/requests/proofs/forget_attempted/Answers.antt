@@ -4,7 +4,6 @@ use mathlib.Core.Bool.{not, ◌&&◌}
 use Prim.Native.Nat.{ℕ}
 use lib.Dec.{eqb}
 use Rattle.laws.specs.Whole.{holds_whole}
-use borrow.Author.Rules.{rules}
 use Rattle.requests.proofs.forget_attempted.Goals as goal
 
 pub returns-then-count-n : goal.returns-then-count-n

@@ -1,13 +1,11 @@
 -- `requests::mark_found` meets its contract. Assumes nothing.
-use mathlib.Core.Path.{◌≡◌, refl, sym, subst, ap, ◌∙◌}
+use mathlib.Core.Path.{◌≡◌, sym, subst, ap, ◌∙◌}
 use Prim.Native.Nat.{ℕ}
 use native.Mathlib.Omega.{arith}
 use mathlib.Core.List.{List, []}
-use lib.ListN.{length}
 use Rattle.model.specs.Calls.{Ask, asks_in}
 use Rattle.model.specs.Layout.{window_of}
 use Rattle.model.specs.Window.{Window, Queue}
-use Rattle.model.specs.declared.Entry.{Entry}
 use Rattle.model.specs.declared.Hash.{Hash}
 use Rattle.records.specs.Places.{Finds}
 use Rattle.records.specs.declared.Place.TheVariants.{Free}
@@ -15,7 +13,6 @@ use Rattle.rules.specs.Rows.{then, by_value}
 use Rattle.requests.specs.Asks.{hash_in, ask_at, asks_within}
 use Rattle.requests.specs.Puts.{Ready, Takes, ready_sound, ready_takes}
 use Rattle.requests.specs.Rows.{forgotten, forgotten_same, closed, filled, requested_row, one_ask, filled_one}
-use borrow.Author.Rules.{rules}
 use Rattle.requests.proofs.mark_found.Goals as goal
 
 pub hash_in-h-requires : goal.hash_in-h-requires

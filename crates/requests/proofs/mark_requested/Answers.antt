@@ -1,17 +1,14 @@
 -- `requests::mark_requested` meets its contract. Assumes nothing.
 use mathlib.Core.Path.{◌≡◌, sym, subst, ap, ◌∙◌}
 use native.Mathlib.Omega.{arith}
-use lib.ListN.{length}
-use Prim.Native.Nat.{ℕ, ◌≤◌}
-use Rattle.model.specs.Numbers.{max_estimate}
-use Rattle.model.specs.Calls.{asks_in, mark_requested}
+use Prim.Native.Nat.{ℕ}
+use Rattle.model.specs.Calls.{asks_in}
 use Rattle.model.specs.Layout.{window_of}
-use Rattle.model.specs.Window.{Window, Queue}
+use Rattle.model.specs.Window.{Window}
 use Rattle.rules.specs.Rows.{then, by_value}
 use Rattle.requests.specs.Asks.{asks_length}
 use Rattle.requests.specs.Puts.{Ready, ready_sound}
 use Rattle.requests.specs.Rows.{forgotten, forgotten_same, closed, filled, requested_row}
-use borrow.Author.Rules.{rules}
 use Rattle.requests.proofs.mark_requested.Goals as goal
 
 pub put_all-requires : goal.put_all-requires

@@ -1,13 +1,13 @@
 -- `requests::put_all` meets its contract. Assumes nothing.
 use mathlib.Core.Path.{◌≡◌, refl, subst, ◌∙◌}
 use mathlib.Core.List.{List, []}
-use Prim.Native.Nat.{◌≤◌, ◌<◌, ◌-◌}
+use Prim.Native.Nat.{◌<◌, ◌-◌}
 use native.Mathlib.Omega.{arith}
 use lib.ListN.{length, drop}
 use Rattle.model.specs.Calls.{Ask, asks_in}
 use Rattle.model.specs.Window.{Window}
 use Rattle.model.specs.Layout.{window_of}
-use Rattle.laws.specs.Whole.{Whole, Holds, holds_whole}
+use Rattle.laws.specs.Whole.{Holds, holds_whole}
 use Rattle.requests.specs.Asks.{asks_within}
 use Rattle.requests.specs.Puts.{drop_all, Putting, putting_start, turn_takes, turn_puts, putting_done}
 use Rattle.requests.proofs.put_all.Goals as goal

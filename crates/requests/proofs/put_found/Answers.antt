@@ -5,7 +5,6 @@ use Rattle.model.specs.Records.{new_entry}
 use Rattle.model.specs.Layout.{window_of}
 use Rattle.model.specs.declared.Entry.{Entry}
 use Rattle.requests.specs.Puts.{put_so}
-use borrow.Author.Rules.{rules}
 use Rattle.requests.proofs.put_found.Goals as goal
 
 pub put_at-requires : goal.put_at-requires

@@ -5,7 +5,6 @@ use Rattle.model.specs.Layout.{window_of}
 use Rattle.records.specs.Places.{Finds}
 use Rattle.records.specs.declared.Place.TheVariants.{Free}
 use Rattle.requests.specs.Puts.{absent_free}
-use borrow.Author.Rules.{rules}
 use Rattle.requests.proofs.put_one.Goals as goal
 
 pub put_found-requires : goal.put_found-requires

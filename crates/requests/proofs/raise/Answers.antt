@@ -5,7 +5,6 @@ use Rattle.model.specs.Calls.{raised}
 use Rattle.model.specs.Layout.{window_of}
 use Rattle.model.specs.Window.{with_high, with_frontier}
 use Rattle.rules.specs.Rows.{then, by_value}
-use borrow.Author.Rules.{rules}
 use Rattle.requests.proofs.raise.Goals as goal
 
 pub returns : goal.returns

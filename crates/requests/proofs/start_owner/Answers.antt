@@ -1,7 +1,6 @@
 -- `requests::start_owner` meets its contract. Assumes nothing.
 use borrow.Author.Tests.{eq-eqb, ne_eqb}
 use Rattle.laws.specs.Whole.{holds_whole}
-use borrow.Author.Rules.{rules}
 use Rattle.requests.proofs.start_owner.Goals as goal
 
 pub returns-then-n-ne0 : goal.returns-then-n-ne0

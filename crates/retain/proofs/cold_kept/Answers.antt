@@ -1,10 +1,6 @@
 -- `retain::cold_kept` meets its contract. Assumes nothing.
-use mathlib.Core.Path.{◌≡◌, sym, ◌∙◌}
+use mathlib.Core.Path.{sym, ◌∙◌}
 use mathlib.Core.Bool.{◌&&◌}
-use borrow.Author.Rules.{rules}
-use Rattle.retain.proofs.cold_kept.Reads as reads
-use Rattle.retain.proofs.cold_kept.Lts as lts
-use Rattle.retain.proofs.is_kept.Reads as is-kept-reads
 use Rattle.retain.proofs.cold_kept.Goals as goal
 
 pub returns-then-is_kept : goal.returns-then-is_kept

@@ -1,10 +1,7 @@
 -- `retain::is_kept` meets its contract. Assumes nothing.
-use mathlib.Core.Path.{◌≡◌, refl}
+use mathlib.Core.Path.{refl}
 use Rattle.model.specs.LettingGo.{flagged}
 use Rattle.retain.specs.Retains.{not_flagged}
-use borrow.Author.Rules.{rules}
-use Rattle.retain.proofs.is_kept.Reads as reads
-use Rattle.retain.proofs.is_kept.Lts as lts
 use Rattle.retain.proofs.is_kept.Goals as goal
 
 pub returns-then-seat-gt-MAX_SEAT : goal.returns-then-seat-gt-MAX_SEAT

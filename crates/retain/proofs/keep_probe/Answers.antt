@@ -1,19 +1,10 @@
 -- `retain::keep_probe` meets its contract. Assumes nothing.
-use mathlib.Core.Path.{◌≡◌, ap, ◌∙◌}
-use Prim.Native.Nat.{ℕ}
+use mathlib.Core.Path.{ap, ◌∙◌}
 use Rattle.model.specs.Lists.{count}
 use Rattle.model.specs.Numbers.{present}
 use Rattle.model.specs.Window.{Window}
 use Rattle.laws.specs.Whole.{holds_whole}
 use Rattle.retain.specs.Retains.{probe_none, probe_stays, probe_goes}
-use borrow.Author.Rules.{rules}
-use Rattle.retain.proofs.keep_probe.Reads as reads
-use Rattle.retain.proofs.keep_probe.Lts as lts
-use Rattle.retain.proofs.is_kept.Reads as is-kept-reads
-use Rattle.state_races.proofs.clear_probe.Reads as clear-probe-reads
-use Rattle.state_races.proofs.get_probe.Reads as get-probe-reads
-use Rattle.state_races.proofs.keep_racers.Reads as keep-racers-reads
-use Rattle.state_races.proofs.racers_left.Reads as racers-left-reads
 use Rattle.retain.proofs.keep_probe.Goals as goal
 
 pub get_probe-p-requires : goal.get_probe-p-requires

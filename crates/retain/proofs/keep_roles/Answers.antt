@@ -1,24 +1,11 @@
 -- `retain::keep_roles` meets its contract. Assumes nothing.
-use mathlib.Core.Path.{◌≡◌, sym, ap, ◌∙◌, subst}
+use mathlib.Core.Path.{sym, ap, ◌∙◌, subst}
 use Prim.Native.Nat.{◌≤◌}
 use Rattle.model.specs.LettingGo.{flagged, cold_kept, peer_kept}
 use Rattle.model.specs.Layout.{window_of, source_word}
-use Rattle.model.specs.declared.ColdFront.{ColdFront}
 use Rattle.model.specs.declared.Source.{Source}
 use Rattle.states.specs.Fits.{cold_fits}
 use Rattle.retain.specs.Retains.{cold_kept_fits, peer_kept_fits, roles_hold}
-use borrow.Author.Rules.{rules}
-use Rattle.retain.proofs.keep_roles.Reads as reads
-use Rattle.retain.proofs.keep_roles.Lts as lts
-use Rattle.retain.proofs.cold_kept.Reads as cold-kept-reads
-use Rattle.retain.proofs.keep_probe.Reads as keep-probe-reads
-use Rattle.retain.proofs.peer_kept.Reads as peer-kept-reads
-use Rattle.state.proofs.get_attempted.Reads as get-attempted-reads
-use Rattle.state.proofs.get_cold.Reads as get-cold-reads
-use Rattle.state.proofs.get_preferred.Reads as get-preferred-reads
-use Rattle.state.proofs.set_attempted.Reads as set-attempted-reads
-use Rattle.state.proofs.set_cold.Reads as set-cold-reads
-use Rattle.state.proofs.set_preferred.Reads as set-preferred-reads
 use Rattle.retain.proofs.keep_roles.Goals as goal
 
 pub get_cold-c-requires : goal.get_cold-c-requires

@@ -1,9 +1,5 @@
 -- `retain::observation_kept` meets its contract. Assumes nothing.
-use mathlib.Core.Path.{◌≡◌, sym, ◌∙◌}
-use borrow.Author.Rules.{rules}
-use Rattle.retain.proofs.observation_kept.Reads as reads
-use Rattle.retain.proofs.observation_kept.Lts as lts
-use Rattle.retain.proofs.is_kept.Reads as is-kept-reads
+use mathlib.Core.Path.{sym, ◌∙◌}
 use Rattle.retain.proofs.observation_kept.Goals as goal
 
 pub returns-then-is_kept : goal.returns-then-is_kept

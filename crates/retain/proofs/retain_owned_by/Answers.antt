@@ -1,13 +1,8 @@
 -- `retain::retain_owned_by` meets its contract. Assumes nothing.
-use mathlib.Core.Path.{◌≡◌, ap, ◌∙◌, subst}
+use mathlib.Core.Path.{ap, ◌∙◌, subst}
 use Rattle.model.specs.Window.{Step}
 use Rattle.laws.specs.Whole.{Holds}
 use Rattle.retain.specs.Retains.{roles_ranged, owned_is}
-use borrow.Author.Rules.{rules}
-use Rattle.retain.proofs.retain_owned_by.Reads as reads
-use Rattle.retain.proofs.retain_owned_by.Lts as lts
-use Rattle.retain.proofs.keep_roles.Reads as keep-roles-reads
-use Rattle.retain.proofs.retain_peer_assignments.Reads as retain-peer-assignments-reads
 use Rattle.retain.proofs.retain_owned_by.Goals as goal
 
 pub keep_roles-requires : goal.keep_roles-requires

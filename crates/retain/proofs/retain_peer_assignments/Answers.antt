@@ -1,21 +1,12 @@
 -- `retain::retain_peer_assignments` meets its contract. Assumes nothing.
-use mathlib.Core.Path.{◌≡◌, ap, ◌∙◌, subst}
-use mathlib.Core.List.{List, map}
+use mathlib.Core.Path.{◌≡◌, subst}
+use mathlib.Core.List.{map}
 use Prim.Native.Nat.{ℕ}
 use lib.ListN.{length, take}
 use Rattle.model.specs.LettingGo.{lost_reason, flagged}
 use Rattle.model.specs.Layout.{window_of}
 use Rattle.retain.specs.Retains.{retained_gone, retained_holds}
 use borrow.Author.Rules.{rules}
-use Rattle.retain.proofs.retain_peer_assignments.Reads as reads
-use Rattle.retain.proofs.retain_peer_assignments.Lts as lts
-use Rattle.batch.proofs.take_marked.Reads as take-marked-reads
-use Rattle.marks.proofs.lost_marks.Reads as lost-marks-reads
-use Rattle.retain.proofs.observation_kept.Reads as observation-kept-reads
-use Rattle.state.proofs.get_observation.Reads as get-observation-reads
-use Rattle.state.proofs.set_observation.Reads as set-observation-reads
-use Rattle.state_queue.proofs.keep_seats.Reads as keep-seats-reads
-use Rattle.state_queue.proofs.pending_count.Reads as pending-count-reads
 use Rattle.retain.proofs.retain_peer_assignments.Goals as goal
 
 pub lost_marks-marks-requires : goal.lost_marks-marks-requires

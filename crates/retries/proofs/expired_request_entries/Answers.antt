@@ -1,6 +1,5 @@
 -- `retries::expired_request_entries` meets its contract. Assumes nothing.
 use mathlib.Core.Path.{refl}
-use borrow.Author.Rules.{rules}
 use Rattle.retries.specs.Retries.{none_swept}
 use Rattle.retries.proofs.expired_request_entries.Goals as goal
 

@@ -2,7 +2,6 @@
 use mathlib.Core.Path.{ap}
 use Prim.Native.Nat.{ℕ}
 use Rattle.swept_order.specs.Keys.{entry_from}
-use borrow.Author.Rules.{rules}
 use Rattle.retries.proofs.height_at.Goals as goal
 
 pub returns : goal.returns

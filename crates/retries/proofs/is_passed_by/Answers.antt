@@ -1,5 +1,5 @@
 -- `retries::is_passed_by` meets its contract. Assumes nothing.
-use mathlib.Core.Path.{◌≡◌, sym, ◌∙◌}
+use mathlib.Core.Path.{sym, ◌∙◌}
 use borrow.Author.Tests.{lt-ltb, le-ltb}
 use Rattle.model.specs.Planning.{is_pending}
 use Rattle.retries.proofs.is_passed_by.Goals as goal

@@ -1,7 +1,6 @@
 -- `retries::lower_of` meets its contract. Assumes nothing.
 use mathlib.Core.Path.{ap, ◌∙◌}
 use native.Mathlib.Omega.{arith}
-use borrow.Author.Rules.{rules}
 use Rattle.plan_lists.specs.Lists.{height_of}
 use Rattle.retries.specs.Retries.{lower_none, lower_some}
 use Rattle.retries.proofs.lower_of.Goals as goal

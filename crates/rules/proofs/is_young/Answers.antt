@@ -2,7 +2,6 @@
 use mathlib.Core.Path.{ap}
 use Prim.Native.Nat.{ℕ}
 use lib.Dec.{ltb}
-use borrow.Author.Rules.{rules}
 use Rattle.rules.proofs.is_young.Goals as goal
 
 pub returns-in-Probing : goal.returns-in-Probing

@@ -1,6 +1,5 @@
 -- `rules::next_mean` meets its contract. Assumes nothing.
 use Rattle.model.specs.Calls.{next_mean}
-use borrow.Author.Rules.{rules}
 use Rattle.rules.proofs.next_mean.Goals as goal
 
 pub returns : goal.returns

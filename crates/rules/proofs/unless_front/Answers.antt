@@ -1,7 +1,5 @@
 -- `rules::unless_front` meets its contract. Assumes nothing.
-use mathlib.Core.Path.{sym, ap, ◌∙◌}
-use mathlib.Core.Bool.{Bool, ◌&&◌}
-use borrow.Author.Rules.{rules}
+use mathlib.Core.Path.{sym, ◌∙◌}
 use Rattle.rules.proofs.unless_front.Goals as goal
 
 pub returns-then-is_ask : goal.returns-then-is_ask

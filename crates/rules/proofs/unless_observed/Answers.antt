@@ -1,6 +1,5 @@
 -- `rules::unless_observed` meets its contract. Assumes nothing.
 use mathlib.Core.Path.{sym, ◌∙◌}
-use borrow.Author.Rules.{rules}
 use Rattle.rules.proofs.unless_observed.Goals as goal
 
 pub returns-then-is_ask : goal.returns-then-is_ask

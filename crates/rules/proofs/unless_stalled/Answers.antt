@@ -1,8 +1,6 @@
 -- `rules::unless_stalled` meets its contract. Assumes nothing.
 use mathlib.Core.Path.{sym, ◌∙◌}
-use mathlib.Core.Bool.{cond}
 use borrow.Author.Tests.{eq-eqb, ne_eqb}
-use borrow.Author.Rules.{rules}
 use Rattle.rules.proofs.unless_stalled.Goals as goal
 
 pub returns-then-owner-source : goal.returns-then-owner-source

@@ -1,6 +1,5 @@
 -- `script::after_of` meets its contract. Assumes nothing.
 use mathlib.Core.Path.{refl}
-use borrow.Author.Rules.{rules}
 use Rattle.script.proofs.after_of.Goals as goal
 
 pub returns : goal.returns

@@ -3,7 +3,6 @@ use mathlib.Core.Path.{sym}
 use native.Mathlib.Omega.{arith}
 use lib.ListN.{replicate}
 use lib.Seq.{set_out}
-use borrow.Author.Rules.{rules}
 use Rattle.script.proofs.all_but.Goals as goal
 
 pub returns-then-peer-ge256 : goal.returns-then-peer-ge256

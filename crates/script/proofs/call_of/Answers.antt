@@ -1,6 +1,5 @@
 -- `script::call_of` meets its contract. Assumes nothing.
 use mathlib.Core.Path.{refl}
-use borrow.Author.Rules.{rules}
 use Rattle.script.specs.Given.{call_of}
 use Rattle.script.proofs.call_of.Goals as goal
 

@@ -1,6 +1,5 @@
 -- `script::is_call` meets its contract. Assumes nothing.
 use mathlib.Core.Path.{refl}
-use borrow.Author.Rules.{rules}
 use Rattle.script.proofs.is_call.Goals as goal
 
 pub returns : goal.returns

@@ -1,7 +1,6 @@
 -- `script::named` meets its contract. Assumes nothing.
-use mathlib.Core.Path.{◌∙◌, sym, ap}
-use mathlib.Core.Bool.{Bool, false}
-use borrow.Author.Rules.{rules}
+use mathlib.Core.Path.{◌∙◌, sym}
+use mathlib.Core.Bool.{false}
 use Rattle.script.specs.Given.{named, named_by}
 use Rattle.script.proofs.named.Goals as goal
 

@@ -1,12 +1,7 @@
 -- `script::number_in` meets its contract: at the loop's head i columns are read. Assumes nothing.
-use mathlib.Core.Path.{◌≡◌, refl, ap, ◌∙◌}
-use mathlib.Core.List.{List}
-use Prim.Native.Nat.{ℕ, suc, ◌+◌, ◌-◌, ◌≤◌}
-use native.Mathlib.Numerals.{add-one}
-use native.Mathlib.Omega.{arith}
-use lib.ListN.{get_or}
-use borrow.Author.Rules.{rules}
-use Rattle.script.specs.Text.{with_digit, number_in}
+use mathlib.Core.Path.{◌≡◌}
+use Prim.Native.Nat.{◌-◌, ◌≤◌}
+use Rattle.script.specs.Text.{number_in}
 use Rattle.script.proofs.number_in.Given as goal
 
 abbrev pub invariant-loop-i : goal.invariant-loop-i

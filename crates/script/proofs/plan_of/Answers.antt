@@ -1,6 +1,5 @@
 -- `script::plan_of` meets its contract. Assumes nothing.
 use mathlib.Core.Path.{refl}
-use borrow.Author.Rules.{rules}
 use Rattle.script.specs.Kept.{plan_of}
 use Rattle.script.proofs.plan_of.Goals as goal
 

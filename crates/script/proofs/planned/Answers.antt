@@ -1,6 +1,5 @@
 -- `script::planned` meets its contract. Assumes nothing.
 use mathlib.Core.Path.{◌∙◌, sym, ap}
-use borrow.Author.Rules.{rules}
 use Rattle.model.specs.declared.NextRequest.{NextRequest}
 use Rattle.script.specs.Kept.{planned}
 use Rattle.script.proofs.planned.Goals as goal

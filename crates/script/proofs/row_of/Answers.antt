@@ -1,6 +1,5 @@
 -- `script::row_of` meets its contract. Assumes nothing.
 use mathlib.Core.Path.{refl}
-use borrow.Author.Rules.{rules}
 use Rattle.script.proofs.row_of.Goals as goal
 
 pub returns : goal.returns

@@ -2,9 +2,7 @@
 use mathlib.Core.Path.{◌≡◌, ◌∙◌, sym}
 use mathlib.Core.Bool.{Bool, true, false, cond, ◌&&◌, false≢true}
 use Prim.Native.Nat.{◌+◌, ◌≤◌}
-use native.Mathlib.Omega.{arith}
-use lib.ListN.{length, length-set, set}
-use borrow.Author.Rules.{rules}
+use lib.ListN.{length, set}
 use borrow.Author.Tests.{leb-true}
 use Rattle.script.specs.Kept.{stages}
 use Rattle.script.proofs.stage.Goals.{After-struct_known-1}

@@ -1,6 +1,5 @@
 -- `script::step_of` meets its contract. Assumes nothing.
 use mathlib.Core.Path.{refl}
-use borrow.Author.Rules.{rules}
 use Rattle.script.specs.Text.{step_of}
 use Rattle.script.proofs.step_of.Goals as goal
 

@@ -1,8 +1,6 @@
 -- `script::with_digit` meets its contract. Assumes nothing.
 use mathlib.Core.Path.{refl}
-use native.Mathlib.Omega.{arith}
 use borrow.Author.Tests.{lt-ltb, le-ltb}
-use borrow.Author.Rules.{rules}
 use Rattle.script.proofs.with_digit.Goals as goal
 
 pub returns-then-byte-lt48 : goal.returns-then-byte-lt48

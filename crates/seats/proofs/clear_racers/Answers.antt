@@ -5,7 +5,6 @@ use native.Mathlib.Omega.{arith}
 use lib.ListN.{length, take, drop, replicate}
 use Rattle.model.specs.Layout.{decode}
 use Rattle.laws.specs.Tables.{sized_decode}
-use borrow.Author.Rules.{rules}
 use Rattle.seats.proofs.Written.{racers_back}
 use Rattle.seats.proofs.clear_racers.Goals as goal
 

@@ -1,18 +1,11 @@
 -- `seats::keep_flagged` meets its contract: at the loop's head the column has the first i words of the result, and then its own. Assumes nothing.
-use mathlib.Core.Path.{◌≡◌, refl, sym, ap, ◌∙◌}
-use mathlib.Core.Bool.{Bool, cond, not}
-use mathlib.Core.List.{List, [], ◌∷◌}
-use Prim.Native.Nat.{ℕ, zero, suc, ◌+◌, ◌-◌, ◌≤◌, ◌<◌}
-use native.Mathlib.Nat.{le_of_suc-le-suc, not-suc-le-zero}
-use native.Mathlib.Omega.{arith}
-use native.Mathlib.Numerals.{add-one}
-use lib.ListN.{length, get_or, set, length-set}
-use lib.Dec.{eqb}
-use borrow.Author.Rules.{rules}
-use Rattle.model.specs.Hash.{same}
+use mathlib.Core.Path.{◌≡◌}
+use mathlib.Core.List.{List}
+use Prim.Native.Nat.{ℕ, ◌-◌, ◌≤◌}
+use lib.ListN.{length}
 use Rattle.model.specs.Seats.{keep_seats}
 use Rattle.model.specs.LettingGo.{flagged}
-use Rattle.column.proofs.Laws.{over, over_step, over_read, over_done}
+use Rattle.column.proofs.Laws.{over}
 use Rattle.seats.proofs.keep_flagged.Given as goal
 
 -- the result

@@ -1,6 +1,5 @@
 -- `seats::keep_racers` meets its contract. Assumes nothing.
 use Rattle.model.specs.Layout.{decode}
-use borrow.Author.Rules.{rules}
 use Rattle.seats.proofs.Written.{racers_back}
 use Rattle.seats.proofs.keep_racers.Goals as goal
 

@@ -10,7 +10,6 @@ use Rattle.model.specs.Layout.{decode}
 use Rattle.laws.specs.Tables.{with_starts, with_bodies, sized_decode}
 use Rattle.column.proofs.Parts.{put, put_long, put_higher}
 use Rattle.laws.specs.Tables.{kept_seats}
-use borrow.Author.Rules.{rules}
 use Rattle.seats.proofs.Written.{starts_back, bodies_back}
 use Rattle.seats.proofs.keep_seats.Goals as goal
 

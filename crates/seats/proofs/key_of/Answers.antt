@@ -2,7 +2,6 @@
 use mathlib.Core.Path.{sym}
 use Rattle.model.specs.Layout.{decode}
 use Rattle.laws.specs.Tables.{seat_word}
-use borrow.Author.Rules.{rules}
 use Rattle.seats.proofs.key_of.Goals as goal
 
 pub returns : goal.returns

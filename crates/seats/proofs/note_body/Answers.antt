@@ -5,7 +5,6 @@ use native.Mathlib.Numerals.{add-one}
 use lib.ListN.{set}
 use Rattle.model.specs.Layout.{decode}
 use Rattle.laws.specs.Tables.{with_bodies}
-use borrow.Author.Rules.{rules}
 use Rattle.seats.proofs.note_body.Goals as goal
 
 pub returns : goal.returns

@@ -5,7 +5,6 @@ use lib.ListN.{set}
 use Rattle.model.specs.Seats.{start_noted}
 use Rattle.model.specs.Layout.{decode}
 use Rattle.laws.specs.Tables.{with_starts}
-use borrow.Author.Rules.{rules}
 use Rattle.seats.proofs.note_start.Goals as goal
 
 pub returns : goal.returns

@@ -3,7 +3,6 @@ use mathlib.Core.Path.{◌≡◌, refl, sym}
 use Prim.Native.Nat.{ℕ, zero, suc}
 use native.Mathlib.Numerals.{add-one}
 use Rattle.model.specs.Seats.{start_noted}
-use borrow.Author.Rules.{rules}
 use Rattle.seats.proofs.noted.Goals as goal
 
 some : (now s : ℕ) → (s ≡ 0 → ⊥) → start_noted now s ≡ s

@@ -1,6 +1,5 @@
 -- `seats::racers_left` meets its contract. Assumes nothing.
 use Rattle.model.specs.Layout.{decode}
-use borrow.Author.Rules.{rules}
 use Rattle.seats.proofs.racers_left.Goals as goal
 
 pub returns : goal.returns

@@ -7,7 +7,6 @@ use Rattle.model.specs.Layout.{Table, decode}
 use Rattle.laws.specs.Tables.{with_starts, with_bodies}
 use Rattle.records.specs.Places.{stored}
 use Rattle.laws.specs.Tables.{seat_reset}
-use borrow.Author.Rules.{rules}
 use Rattle.seats.proofs.reset_owner_queue_start.Goals as goal
 
 both : (owner s b : ℕ) (t t₁ t₂ : Table) → t₁ ≡ with_starts (set t.starts owner s) t → t₂ ≡ with_bodies (set t₁.bodies owner b) t₁

@@ -1,6 +1,5 @@
 -- `seats::set_body` meets its contract. Assumes nothing.
 use Rattle.model.specs.Layout.{decode}
-use borrow.Author.Rules.{rules}
 use Rattle.seats.proofs.Written.{bodies_back}
 use Rattle.seats.proofs.set_body.Goals as goal
 

@@ -1,6 +1,5 @@
 -- `seats::set_racer` meets its contract. Assumes nothing.
 use Rattle.model.specs.Layout.{decode}
-use borrow.Author.Rules.{rules}
 use Rattle.seats.proofs.Written.{racers_back}
 use Rattle.seats.proofs.set_racer.Goals as goal
 

@@ -1,6 +1,5 @@
 -- `seats::set_start` meets its contract. Assumes nothing.
 use Rattle.model.specs.Layout.{decode}
-use borrow.Author.Rules.{rules}
 use Rattle.seats.proofs.Written.{starts_back}
 use Rattle.seats.proofs.set_start.Goals as goal
 

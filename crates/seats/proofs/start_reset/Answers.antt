@@ -6,7 +6,6 @@ use native.Mathlib.Numerals.{add-one}
 use borrow.Author.Tests.{lt-ltb, le-ltb, eq-eqb, ne_eqb}
 use Rattle.model.specs.Numbers.{greater}
 use Rattle.model.specs.Seats.{start_reset}
-use borrow.Author.Rules.{rules}
 use Rattle.seats.proofs.start_reset.Goals as goal
 
 -- the cases in which some are left

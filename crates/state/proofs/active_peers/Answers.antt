@@ -1,7 +1,6 @@
 -- `state::active_peers` meets its contract. Assumes nothing.
 use Rattle.model.specs.Layout.{window_of, read}
 use Rattle.model.specs.Time.{active}
-use borrow.Author.Rules.{rules}
 use Rattle.state.proofs.active_peers.Goals as goal
 
 pub returns : goal.returns

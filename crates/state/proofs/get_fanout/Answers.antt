@@ -1,7 +1,6 @@
 -- `state::get_fanout` meets its contract. Assumes nothing.
 use Rattle.model.specs.Layout.{window_of, read}
 use Rattle.layout.specs.Head.{fanout_of}
-use borrow.Author.Rules.{rules}
 use Rattle.state.proofs.get_fanout.Goals as goal
 
 pub returns : goal.returns

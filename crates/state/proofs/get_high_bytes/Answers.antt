@@ -1,6 +1,5 @@
 -- `state::get_high_bytes` meets its contract. Assumes nothing.
 use Rattle.model.specs.Layout.{window_of, read}
-use borrow.Author.Rules.{rules}
 use Rattle.state.proofs.get_high_bytes.Goals as goal
 
 pub returns : goal.returns

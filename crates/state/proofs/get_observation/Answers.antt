@@ -1,6 +1,5 @@
 -- `state::get_observation` meets its contract. Assumes nothing.
 use Rattle.model.specs.Layout.{window_of, read}
-use borrow.Author.Rules.{rules}
 use Rattle.state.proofs.get_observation.Goals as goal
 
 pub returns : goal.returns

@@ -1,6 +1,5 @@
 -- `state::get_settings` meets its contract. Assumes nothing.
 use Rattle.model.specs.Layout.{window_of, read}
-use borrow.Author.Rules.{rules}
 use Rattle.state.proofs.get_settings.Goals as goal
 
 pub returns : goal.returns

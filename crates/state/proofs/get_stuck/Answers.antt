@@ -1,6 +1,5 @@
 -- `state::get_stuck` meets its contract. Assumes nothing.
 use Rattle.model.specs.Layout.{window_of, read}
-use borrow.Author.Rules.{rules}
 use Rattle.state.proofs.get_stuck.Goals as goal
 
 pub returns : goal.returns

@@ -1,7 +1,6 @@
 -- `state::key_of` meets its contract. Assumes nothing.
 use Rattle.model.specs.Layout.{window_of, read}
 use Rattle.model.specs.Cooling.{key_of}
-use borrow.Author.Rules.{rules}
 use Rattle.state.proofs.key_of.Goals as goal
 
 pub returns : goal.returns

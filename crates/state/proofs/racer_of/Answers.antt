@@ -1,6 +1,5 @@
 -- `state::racer_of` meets its contract. Assumes nothing.
 use Rattle.model.specs.Layout.{window_of, read}
-use borrow.Author.Rules.{rules}
 use Rattle.state.proofs.racer_of.Goals as goal
 
 pub returns : goal.returns

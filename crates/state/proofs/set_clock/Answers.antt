@@ -4,7 +4,6 @@ use Rattle.model.specs.Layout.{window_of}
 use Rattle.laws.specs.Tables.{with_words}
 use Rattle.laws.specs.Whole.{lifted, words_shaped}
 use Rattle.laws.specs.Groups.{clock_in}
-use borrow.Author.Rules.{rules}
 use Rattle.state.proofs.set_clock.Goals as goal
 
 pub returns : goal.returns

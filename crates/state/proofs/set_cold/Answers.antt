@@ -3,7 +3,6 @@ use Rattle.model.specs.Layout.{window_of, cold_words}
 use Rattle.laws.specs.Tables.{with_words}
 use Rattle.laws.specs.Whole.{lifted, words_shaped}
 use Rattle.laws.specs.Groups.{cold_in}
-use borrow.Author.Rules.{rules}
 use Rattle.state.proofs.set_cold.Goals as goal
 
 pub returns : goal.returns

@@ -4,7 +4,6 @@ use Rattle.laws.specs.Tables.{with_words}
 use Rattle.laws.specs.Whole.{lifted, words_shaped}
 use Rattle.laws.specs.Groups.{fanout_in}
 use Rattle.layout.specs.Head.{fanout_list}
-use borrow.Author.Rules.{rules}
 use Rattle.state.proofs.set_fanout.Goals as goal
 
 pub returns : goal.returns

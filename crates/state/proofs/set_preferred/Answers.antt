@@ -4,7 +4,6 @@ use Rattle.model.specs.Layout.{window_of, source_word}
 use Rattle.laws.specs.Tables.{with_words}
 use Rattle.laws.specs.Whole.{lifted, words_shaped}
 use Rattle.laws.specs.Groups.{preferred_in}
-use borrow.Author.Rules.{rules}
 use Rattle.state.proofs.set_preferred.Goals as goal
 
 pub returns : goal.returns

@@ -3,7 +3,6 @@ use Rattle.model.specs.Layout.{window_of, stuck_words}
 use Rattle.laws.specs.Tables.{with_words}
 use Rattle.laws.specs.Whole.{lifted, words_shaped}
 use Rattle.laws.specs.Groups.{stuck_in}
-use borrow.Author.Rules.{rules}
 use Rattle.state.proofs.set_stuck.Goals as goal
 
 pub returns : goal.returns

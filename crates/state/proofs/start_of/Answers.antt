@@ -1,6 +1,5 @@
 -- `state::start_of` meets its contract. Assumes nothing.
 use Rattle.model.specs.Layout.{window_of, read}
-use borrow.Author.Rules.{rules}
 use Rattle.state.proofs.start_of.Goals as goal
 
 pub returns : goal.returns

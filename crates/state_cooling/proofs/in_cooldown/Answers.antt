@@ -6,7 +6,6 @@ use Rattle.model.specs.Cooling.{key_of}
 use Rattle.model.specs.Layout.{decode, read, window_of}
 use Rattle.laws.specs.Tables.{sized_decode}
 use Rattle.state_cooling.specs.Cooled.{cooling_read}
-use borrow.Author.Rules.{rules}
 use Rattle.state_cooling.proofs.in_cooldown.Goals as goal
 
 pub is_cooling-requires : goal.is_cooling-requires

@@ -6,7 +6,6 @@ use Rattle.model.specs.Cooling.{key_of}
 use Rattle.model.specs.Layout.{decode, read, window_of}
 use Rattle.laws.specs.Tables.{sized_decode}
 use Rattle.state_cooling.specs.Cooled.{cooled}
-use borrow.Author.Rules.{rules}
 use Rattle.state_cooling.proofs.mark_peer_unresponsive.Goals as goal
 
 pub mark_unresponsive-requires : goal.mark_unresponsive-requires

@@ -4,7 +4,6 @@ use mathlib.Core.List.{List}
 use Rattle.model.specs.declared.Entry.{Entry}
 use Rattle.records.specs.Places.{Finds}
 use Rattle.state_queue.specs.Steps.{live_is}
-use borrow.Author.Rules.{rules}
 use Rattle.state_queue.proofs.find.Goals as goal
 
 pub returns : goal.returns

@@ -2,7 +2,6 @@
 use mathlib.Core.Path.{◌∙◌}
 use native.Mathlib.Omega.{arith}
 use Rattle.state_queue.specs.Steps.{left_over, none_over}
-use borrow.Author.Rules.{rules}
 use Rattle.state_queue.proofs.keep_entries.Goals as goal
 
 -- none is left

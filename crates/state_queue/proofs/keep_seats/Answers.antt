@@ -4,7 +4,6 @@ use Rattle.model.specs.LettingGo.{flagged}
 use Rattle.laws.specs.Parts.{length_keep}
 use Rattle.laws.specs.Tables.{kept_seats}
 use Rattle.state_queue.specs.Steps.{seated, kept_seats_in}
-use borrow.Author.Rules.{rules}
 use Rattle.state_queue.proofs.keep_seats.Goals as goal
 
 pub returns : goal.returns

@@ -7,7 +7,6 @@ use Rattle.laws.specs.Tables.{with_bodies}
 use lib.ListN.{length-set}
 use Rattle.model.specs.Layout.{window_of}
 use Rattle.state_queue.specs.Steps.{seated, body_in}
-use borrow.Author.Rules.{rules}
 use Rattle.state_queue.proofs.note_body.Goals as goal
 
 pub returns : goal.returns

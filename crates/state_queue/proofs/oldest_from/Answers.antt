@@ -5,7 +5,6 @@ use Rattle.model.specs.Seats.{oldest}
 use Rattle.model.specs.declared.Entry.{Entry}
 use Rattle.records.specs.Places.{floored}
 use Rattle.state_queue.specs.Steps.{live_is}
-use borrow.Author.Rules.{rules}
 use Rattle.state_queue.proofs.oldest_from.Goals as goal
 
 pub returns : goal.returns

@@ -2,7 +2,6 @@
 use mathlib.Core.Path.{◌∙◌}
 use native.Mathlib.Omega.{arith}
 use Rattle.state_queue.specs.Steps.{count_is, few}
-use borrow.Author.Rules.{rules}
 use Rattle.state_queue.proofs.pending_count.Goals as goal
 
 pub returns : goal.returns

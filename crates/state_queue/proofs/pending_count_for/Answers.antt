@@ -2,7 +2,6 @@
 use mathlib.Core.Path.{ap, ◌∙◌}
 use Rattle.model.specs.Records.{pending_count_for}
 use Rattle.state_queue.specs.Steps.{live_is}
-use borrow.Author.Rules.{rules}
 use Rattle.state_queue.proofs.pending_count_for.Goals as goal
 
 pub returns : goal.returns

@@ -4,7 +4,6 @@ use native.Mathlib.Omega.{arith}
 use lib.ListN.{length}
 use Rattle.model.specs.Layout.{window_of}
 use Rattle.state_queue.specs.Steps.{count_is, total_is, few, blank_after, given}
-use borrow.Author.Rules.{rules}
 use Rattle.state_queue.proofs.put_at.Goals as goal
 
 pub overflow_add-more : goal.overflow_add-more

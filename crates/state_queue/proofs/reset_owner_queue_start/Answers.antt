@@ -6,7 +6,6 @@ use Rattle.model.specs.Seats.{reset_owner_queue_start}
 use Rattle.records.specs.Places.{stored}
 use Rattle.laws.specs.Tables.{seat_reset}
 use Rattle.state_queue.specs.Steps.{seated, reset_in, start_is}
-use borrow.Author.Rules.{rules}
 use Rattle.state_queue.proofs.reset_owner_queue_start.Goals as goal
 
 pub returns : goal.returns

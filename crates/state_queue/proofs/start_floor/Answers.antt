@@ -1,8 +1,6 @@
 -- `state_queue::start_floor` meets its contract. Assumes nothing.
-use mathlib.Core.Path.{◌≡◌}
 use native.Mathlib.Numerals.{add-one}
 use borrow.Author.Tests.{lt-ltb, le-ltb}
-use borrow.Author.Rules.{rules}
 use Rattle.state_queue.specs.Steps.{start_floor}
 use Rattle.state_queue.proofs.start_floor.Goals as goal
 

@@ -5,7 +5,6 @@ use lib.ListN.{length}
 use Rattle.model.specs.Layout.{window_of}
 use Rattle.model.specs.declared.Entry.{Entry}
 use Rattle.state_queue.specs.Steps.{count_is, total_is, few, blank_after, taken}
-use borrow.Author.Rules.{rules}
 use Rattle.state_queue.proofs.take_out.Goals as goal
 
 pub overflow_sub-left : goal.overflow_sub-left

@@ -2,7 +2,6 @@
 use mathlib.Core.Path.{ap, ◌∙◌}
 use Rattle.model.specs.Pace.{was_front}
 use Rattle.state_queue.specs.Steps.{live_is}
-use borrow.Author.Rules.{rules}
 use Rattle.state_queue.proofs.was_front.Goals as goal
 
 pub returns : goal.returns

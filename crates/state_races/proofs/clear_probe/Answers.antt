@@ -4,7 +4,6 @@ use native.Mathlib.Omega.{arith}
 use Rattle.model.specs.Lists.{all}
 use Rattle.model.specs.Window.{Window, with_probe, no_seats}
 use Rattle.laws.specs.Whole.{Holds}
-use borrow.Author.Rules.{rules}
 use Rattle.state_races.proofs.clear_probe.Goals as goal
 
 pub set_plan-requires : goal.set_plan-requires

@@ -2,7 +2,6 @@
 use native.Mathlib.Omega.{arith}
 use Rattle.laws.specs.Whole.{words_shaped}
 use Rattle.state_races.specs.Hedges.{hedged_listed}
-use borrow.Author.Rules.{rules}
 use Rattle.state_races.proofs.is_hedged.Goals as goal
 
 pub is_listed-requires : goal.is_listed-requires

@@ -1,7 +1,6 @@
 -- `state_races::planned_count` meets its contract. Assumes nothing.
 use mathlib.Core.Path.{◌∙◌}
 use Rattle.state_races.specs.Hedges.{planned_count}
-use borrow.Author.Rules.{rules}
 use Rattle.state_races.proofs.planned_count.Goals as goal
 
 pub returns : goal.returns

@@ -7,7 +7,6 @@ use Rattle.laws.specs.Tables.{with_words}
 use Rattle.laws.specs.Whole.{lifted, words_shaped}
 use Rattle.laws.specs.Groups.{hedged_in}
 use Rattle.state_races.specs.Hedges.{hedged_count, hedged_at, pushed_is, length_pushed}
-use borrow.Author.Rules.{rules}
 use Rattle.state_races.proofs.push_hedged.Goals as goal
 
 pub returns : goal.returns

@@ -1,6 +1,5 @@
 -- `state_races::racers_left` meets its contract. Assumes nothing.
 use Rattle.model.specs.Layout.{window_of, read}
-use borrow.Author.Rules.{rules}
 use Rattle.state_races.proofs.racers_left.Goals as goal
 
 pub returns : goal.returns

@@ -5,7 +5,6 @@ use Rattle.model.specs.Layout.{window_of, probe_words}
 use Rattle.laws.specs.Tables.{with_words}
 use Rattle.laws.specs.Whole.{lifted, words_shaped}
 use Rattle.state_races.specs.Hedges.{planned_in, plan_count}
-use borrow.Author.Rules.{rules}
 use Rattle.state_races.proofs.set_plan.Goals as goal
 
 pub returns : goal.returns

@@ -6,7 +6,6 @@ use Rattle.laws.specs.Tables.{with_words}
 use Rattle.laws.specs.Whole.{lifted, words_shaped}
 use Rattle.laws.specs.Groups.{probe_in}
 use Rattle.state_races.specs.Hedges.{planned_count}
-use borrow.Author.Rules.{rules}
 use Rattle.state_races.proofs.set_probe.Goals as goal
 
 pub returns : goal.returns

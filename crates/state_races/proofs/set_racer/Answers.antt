@@ -5,7 +5,6 @@ use Rattle.model.specs.Layout.{window_of, table}
 use Rattle.laws.specs.Tables.{with_racers}
 use Rattle.laws.specs.Whole.{lifted, words_shaped}
 use Rattle.laws.specs.Groups.{racers_in}
-use borrow.Author.Rules.{rules}
 use Rattle.state_races.proofs.set_racer.Goals as goal
 
 pub returns : goal.returns

@@ -1,7 +1,6 @@
 -- `states::cold_of` meets its contract. Assumes nothing.
 use native.Mathlib.Omega.{arith}
 use Rattle.states.proofs.Cases.{cold_race}
-use borrow.Author.Rules.{rules}
 use Rattle.states.proofs.cold_of.Goals as goal
 
 pub returns-then-x-eq0 : goal.returns-then-x-eq0

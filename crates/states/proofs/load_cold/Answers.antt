@@ -1,5 +1,4 @@
 -- `states::load_cold` meets its contract. Assumes nothing.
-use borrow.Author.Rules.{rules}
 use Rattle.states.proofs.load_cold.Goals as goal
 
 pub returns : goal.returns

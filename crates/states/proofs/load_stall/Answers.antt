@@ -1,5 +1,4 @@
 -- `states::load_stall` meets its contract. Assumes nothing.
-use borrow.Author.Rules.{rules}
 use Rattle.states.proofs.load_stall.Goals as goal
 
 pub returns : goal.returns

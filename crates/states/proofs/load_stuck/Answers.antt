@@ -1,5 +1,4 @@
 -- `states::load_stuck` meets its contract. Assumes nothing.
-use borrow.Author.Rules.{rules}
 use Rattle.states.proofs.load_stuck.Goals as goal
 
 pub returns : goal.returns

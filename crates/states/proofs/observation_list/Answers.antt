@@ -1,5 +1,4 @@
 -- `states::observation_list` meets its contract. Assumes nothing.
-use borrow.Author.Rules.{rules}
 use Rattle.states.proofs.observation_list.Goals as goal
 
 pub returns-in-Armed : goal.returns-in-Armed

@@ -1,6 +1,5 @@
 -- `states::observation_of` meets its contract. Assumes nothing.
 use Rattle.states.proofs.Cases.{swept_some}
-use borrow.Author.Rules.{rules}
 use Rattle.states.proofs.observation_of.Goals as goal
 
 pub returns-then-tag-eq1 : goal.returns-then-tag-eq1

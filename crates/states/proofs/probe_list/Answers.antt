@@ -3,7 +3,6 @@ use mathlib.Core.Path.{subst}
 use native.Mathlib.Omega.{arith}
 use native.Mathlib.Numerals.{add-one}
 use Rattle.states.specs.Fits.{probe_fits}
-use borrow.Author.Rules.{rules}
 use Rattle.states.proofs.probe_list.Goals as goal
 
 pub overflow_add-result : goal.overflow_add-result

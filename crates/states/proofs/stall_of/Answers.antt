@@ -1,7 +1,6 @@
 -- `states::stall_of` meets its contract. Assumes nothing.
 use native.Mathlib.Omega.{arith}
 use Rattle.states.proofs.Cases.{stall_some}
-use borrow.Author.Rules.{rules}
 use Rattle.states.proofs.stall_of.Goals as goal
 
 pub overflow_sub-result : goal.overflow_sub-result

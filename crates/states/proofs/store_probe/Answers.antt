@@ -1,6 +1,5 @@
 -- `states::store_probe` meets its contract. Assumes nothing.
 use native.Mathlib.Omega.{arith}
-use borrow.Author.Rules.{rules}
 use Rattle.states.proofs.store_probe.Goals as goal
 
 pub slice_bounds-store_at-end : goal.slice_bounds-store_at-end

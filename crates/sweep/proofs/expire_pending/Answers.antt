@@ -1,18 +1,10 @@
 -- `sweep::expire_pending` meets its contract. Assumes nothing.
-use mathlib.Core.Path.{◌≡◌, ap, ◌∙◌}
 use Rattle.model.specs.Time.{effective_owner_timeout, active}
 use Rattle.model.specs.LettingGo.{sweep_reason, expire_pending}
 use Rattle.model.specs.Layout.{window_of}
 use Rattle.laws.specs.Pending.{sound_ranged}
 use Rattle.sweep.specs.Sweeps.{gone_marked, swept_holds}
 use borrow.Author.Rules.{rules}
-use Rattle.sweep.proofs.expire_pending.Reads as reads
-use Rattle.sweep.proofs.expire_pending.Lts as lts
-use Rattle.batch.proofs.let_go.Reads as let-go-reads
-use Rattle.state.proofs.get_observation.Reads as get-observation-reads
-use Rattle.state.proofs.set_observation.Reads as set-observation-reads
-use Rattle.sweep.proofs.marked_swept.Reads as marked-swept-reads
-use Rattle.sweep.proofs.swept_marks.Reads as swept-marks-reads
 use Rattle.sweep.proofs.expire_pending.Goals as goal
 
 pub let_go-n-requires : goal.let_go-n-requires

@@ -1,12 +1,6 @@
 -- `sweep::expired_pending_capacity` meets its contract. Assumes nothing.
 use Rattle.model.specs.Layout.{window_of}
 use Rattle.laws.specs.Pending.{sound_ranged}
-use borrow.Author.Rules.{rules}
-use Rattle.sweep.proofs.expired_pending_capacity.Reads as reads
-use Rattle.sweep.proofs.expired_pending_capacity.Lts as lts
-use Rattle.marks.proofs.forecast_of.Reads as forecast-of-reads
-use Rattle.state_queue.proofs.pending_count.Reads as pending-count-reads
-use Rattle.sweep.proofs.timeout_of.Reads as timeout-of-reads
 use Rattle.sweep.proofs.expired_pending_capacity.Goals as goal
 
 pub timeout_of-timeout-requires : goal.timeout_of-timeout-requires

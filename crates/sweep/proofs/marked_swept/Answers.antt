@@ -1,10 +1,5 @@
 -- `sweep::marked_swept` meets its contract. Assumes nothing.
-use mathlib.Core.Path.{◌≡◌, sym, ◌∙◌}
-use Rattle.model.specs.LettingGo.{marked_swept}
-use borrow.Author.Rules.{rules}
-use Rattle.sweep.proofs.marked_swept.Reads as reads
-use Rattle.sweep.proofs.marked_swept.Lts as lts
-use Rattle.report_words.proofs.is_among.Reads as is-among-reads
+use mathlib.Core.Path.{sym, ◌∙◌}
 use Rattle.sweep.proofs.marked_swept.Goals as goal
 
 pub returns-then-is_among : goal.returns-then-is_among

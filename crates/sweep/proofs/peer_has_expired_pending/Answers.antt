@@ -1,11 +1,6 @@
 -- `sweep::peer_has_expired_pending` meets its contract. Assumes nothing.
-use mathlib.Core.Path.{◌≡◌, ap, ◌∙◌}
+use mathlib.Core.Path.{◌∙◌}
 use Rattle.model.specs.Time.{expired, owner_download_expired, peer_has_expired_pending}
-use Rattle.sweep.proofs.peer_has_expired_pending.Reads as reads
-use Rattle.sweep.proofs.peer_has_expired_pending.Lts as lts
-use Rattle.state.proofs.start_of.Reads as start-of-reads
-use Rattle.sweep.proofs.timeout_of.Reads as timeout-of-reads
-use Rattle.time.proofs.expired.Reads as expired-reads
 use Rattle.sweep.proofs.peer_has_expired_pending.Goals as goal
 
 pub timeout_of-timeout-requires : goal.timeout_of-timeout-requires

@@ -1,6 +1,6 @@
 -- `sweep::retire_before` meets its contract. Assumes nothing.
-use mathlib.Core.Path.{◌≡◌, ap, ◌∙◌, subst}
-use mathlib.Core.List.{List, map}
+use mathlib.Core.Path.{◌≡◌, subst}
+use mathlib.Core.List.{map}
 use Prim.Native.Nat.{ℕ}
 use lib.ListN.{length, take}
 use Rattle.model.specs.Layout.{window_of}
@@ -8,11 +8,6 @@ use Rattle.laws.specs.Batches.{retire_reason}
 use Rattle.laws.specs.Pending.{sound_ranged}
 use Rattle.sweep.specs.Sweeps.{retired_holds, retired_gone}
 use borrow.Author.Rules.{rules}
-use Rattle.sweep.proofs.retire_before.Reads as reads
-use Rattle.sweep.proofs.retire_before.Lts as lts
-use Rattle.batch.proofs.let_go.Reads as let-go-reads
-use Rattle.marks.proofs.retire_marks.Reads as retire-marks-reads
-use Rattle.state_queue.proofs.pending_count.Reads as pending-count-reads
 use Rattle.sweep.proofs.retire_before.Goals as goal
 
 pub retire_marks-marks-requires : goal.retire_marks-marks-requires

@@ -1,19 +1,12 @@
 -- `sweep::swept_marks` meets its contract. Assumes nothing.
-use mathlib.Core.Path.{◌≡◌, sym, ap, ◌∙◌, subst}
-use mathlib.Core.List.{List, map}
+use mathlib.Core.Path.{◌≡◌, ap, subst}
+use mathlib.Core.List.{map}
 use Prim.Native.Nat.{ℕ}
 use lib.ListN.{length, take}
 use Rattle.model.specs.LettingGo.{sweep_reason}
 use Rattle.model.specs.Layout.{window_of}
 use Rattle.model.specs.declared.Pace.{Pace}
 use Rattle.laws.specs.Pending.{sound_ranged}
-use borrow.Author.Rules.{rules}
-use Rattle.sweep.proofs.swept_marks.Reads as reads
-use Rattle.sweep.proofs.swept_marks.Lts as lts
-use Rattle.marks.proofs.sweep_marks.Reads as sweep-marks-reads
-use Rattle.state.proofs.get_pace.Reads as get-pace-reads
-use Rattle.state_queue.proofs.pending_count.Reads as pending-count-reads
-use Rattle.sweep.proofs.timeout_of.Reads as timeout-of-reads
 use Rattle.sweep.proofs.swept_marks.Goals as goal
 
 pub timeout_of-timeout-requires : goal.timeout_of-timeout-requires

@@ -1,16 +1,7 @@
 -- `sweep::timeout_of` meets its contract. Assumes nothing.
-use mathlib.Core.Path.{◌≡◌, ap, ◌∙◌}
-use Prim.Native.Nat.{ℕ, suc, ◌≤◌}
-use Rattle.model.specs.Numbers.{max_duration, max_seat}
+use mathlib.Core.Path.{◌∙◌}
 use Rattle.model.specs.Time.{owner_timeout, effective_owner_timeout}
-use Rattle.model.specs.declared.Settings.{Settings}
 use Rattle.sweep.specs.Sweeps.{active_le, spacing_le}
-use borrow.Author.Rules.{rules}
-use Rattle.sweep.proofs.timeout_of.Reads as reads
-use Rattle.sweep.proofs.timeout_of.Lts as lts
-use Rattle.state.proofs.active_peers.Reads as active-peers-reads
-use Rattle.state.proofs.get_settings.Reads as get-settings-reads
-use Rattle.time.proofs.owner_timeout.Reads as owner-timeout-reads
 use Rattle.sweep.proofs.timeout_of.Goals as goal
 
 pub owner_timeout-requires : goal.owner_timeout-requires

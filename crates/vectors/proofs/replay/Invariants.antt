@@ -1,5 +1,5 @@
 -- `vectors::replay` meets its contract. Assumes nothing.
-use Rattle.std.proofs.Common.{◌≡◌, length, rules}
+use Rattle.std.proofs.Common.{◌≡◌, length}
 use Rattle.vectors.proofs.replay.Given as goal
 
 abbrev pub invariant-loop-turns : goal.invariant-loop-turns

@@ -1,6 +1,5 @@
 -- `watch::apply_side_stuck` meets its contract. Assumes nothing.
 use Rattle.watch.specs.Answers.{stuck_busy, stuck_idle}
-use borrow.Author.Rules.{rules}
 use Rattle.watch.proofs.apply_side_stuck.Goals as goal
 
 pub returns-in_default : goal.returns-in_default

@@ -1,5 +1,4 @@
 -- `watch::armed_by` meets its contract. Assumes nothing.
-use borrow.Author.Rules.{rules}
 use Rattle.watch.proofs.armed_by.Goals as goal
 
 pub returns : goal.returns

@@ -1,7 +1,6 @@
 -- `watch::blocks` meets its contract. Assumes nothing.
 use borrow.Author.Tests.{eq-eqb, ne_eqb, le-leb, lt-leb}
 use Rattle.model.specs.Observation.{blocks}
-use borrow.Author.Rules.{rules}
 use Rattle.watch.proofs.blocks.Goals as goal
 
 pub returns-then-e-next : goal.returns-then-e-next

@@ -1,6 +1,5 @@
 -- `watch::evicted_by` meets its contract. Assumes nothing.
 use borrow.Author.Tests.{lt-ltb, le-ltb}
-use borrow.Author.Rules.{rules}
 use Rattle.watch.proofs.evicted_by.Goals as goal
 
 pub returns-in_default : goal.returns-in_default

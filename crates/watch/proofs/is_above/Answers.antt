@@ -1,5 +1,4 @@
 -- `watch::is_above` meets its contract. Assumes nothing.
-use borrow.Author.Rules.{rules}
 use Rattle.watch.proofs.is_above.Goals as goal
 
 pub returns : goal.returns

@@ -1,6 +1,5 @@
 -- `watch::stalled_since` meets its contract. Assumes nothing.
 use mathlib.Core.Path.{sym, ◌∙◌}
-use borrow.Author.Rules.{rules}
 use Rattle.watch.proofs.stalled_since.Goals as goal
 
 pub returns-then-same_both : goal.returns-then-same_both

@@ -1,6 +1,5 @@
 -- `watch::stuck_still` meets its contract. Assumes nothing.
 use mathlib.Core.Path.{sym, ◌∙◌}
-use borrow.Author.Rules.{rules}
 use Rattle.watch.proofs.stuck_still.Goals as goal
 
 pub returns-in_default : goal.returns-in_default

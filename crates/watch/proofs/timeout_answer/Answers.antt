@@ -1,5 +1,4 @@
 -- `watch::timeout_answer` meets its contract. Assumes nothing.
-use borrow.Author.Rules.{rules}
 use Rattle.watch.proofs.timeout_answer.Goals as goal
 
 pub returns : goal.returns

@@ -1,9 +1,8 @@
 -- `window::clear_preferred_peer` meets its contract. Assumes nothing.
-use mathlib.Core.Path.{◌≡◌, refl}
-use Rattle.model.specs.Refusals.{Change, changes, checks, clears_preferred, credits_duplicate, sets_fanout}
+use mathlib.Core.Path.{refl}
+use Rattle.model.specs.Refusals.{Change, changes, checks, clears_preferred}
 use Rattle.refusals.specs.Outcomes.{refused_so, admitted}
 use Rattle.window.specs.Changes.{preferred_so}
-use borrow.Author.Rules.{rules}
 use Rattle.window.proofs.clear_preferred_peer.Goals as goal
 
 pub shape_of-words-then-n-ne0 : goal.shape_of-words-then-n-ne0

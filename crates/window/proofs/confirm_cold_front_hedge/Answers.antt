@@ -3,7 +3,6 @@ use mathlib.Core.Path.{refl}
 use Rattle.model.specs.Refusals.{timeless}
 use Rattle.refusals.specs.Outcomes.{refused_so, admitted}
 use Rattle.window.specs.Plain.{both_ok, hedge_so}
-use borrow.Author.Rules.{rules}
 use Rattle.window.proofs.confirm_cold_front_hedge.Goals as goal
 
 pub shape_of-words-then-n-ne0 : goal.shape_of-words-then-n-ne0

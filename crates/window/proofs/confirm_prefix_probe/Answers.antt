@@ -4,7 +4,6 @@ use Rattle.model.specs.Numbers.{read_clock}
 use Rattle.model.specs.Refusals.{at}
 use Rattle.refusals.specs.Outcomes.{refused_so, admitted}
 use Rattle.window.specs.Plain.{both_ok, probe_peers, probe_so}
-use borrow.Author.Rules.{rules}
 use Rattle.window.proofs.confirm_prefix_probe.Goals as goal
 
 pub shape_of-words-then-n-ne0 : goal.shape_of-words-then-n-ne0

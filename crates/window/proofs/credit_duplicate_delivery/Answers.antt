@@ -1,9 +1,8 @@
 -- `window::credit_duplicate_delivery` meets its contract. Assumes nothing.
-use mathlib.Core.Path.{◌≡◌, refl}
-use Rattle.model.specs.Refusals.{Change, changes, checks, clears_preferred, credits_duplicate, sets_fanout}
+use mathlib.Core.Path.{refl}
+use Rattle.model.specs.Refusals.{Change, changes, checks, credits_duplicate}
 use Rattle.refusals.specs.Outcomes.{refused_so, admitted}
 use Rattle.window.specs.Changes.{duplicate_so}
-use borrow.Author.Rules.{rules}
 use Rattle.window.proofs.credit_duplicate_delivery.Goals as goal
 
 pub shape_of-words-then-n-ne0 : goal.shape_of-words-then-n-ne0

@@ -1,15 +1,12 @@
 -- `window::mark_owned_fetch` meets its contract. Assumes nothing.
-use mathlib.Core.Path.{◌≡◌, refl}
-use Rattle.model.specs.Refusals.{Change, changes, checks, clears_preferred, credits_duplicate, sets_fanout}
+use mathlib.Core.Path.{refl}
+use Rattle.model.specs.Refusals.{Change, changes, checks}
 use Rattle.refusals.specs.Outcomes.{refused_so, admitted}
 use Rattle.window.specs.Changes.{fetch_so}
-use native.Mathlib.Omega.{arith}
 use Rattle.model.specs.Numbers.{read_clock}
-use Rattle.model.specs.Cooling.{key_of}
-use Rattle.model.specs.Refusals.{marks_unresponsive, fetches}
+use Rattle.model.specs.Refusals.{fetches}
 use Rattle.model.specs.Says.{fetch_says}
 use Rattle.laws.specs.Kept.{seat_le}
-use borrow.Author.Rules.{rules}
 use Rattle.window.proofs.mark_owned_fetch.Goals as goal
 
 pub shape_of-words-then-k-ne0 : goal.shape_of-words-then-k-ne0

@@ -1,8 +1,7 @@
 -- `window::mark_requested` meets its contract. Assumes nothing.
-use mathlib.Core.Path.{◌≡◌, refl}
+use mathlib.Core.Path.{refl}
 use Rattle.model.specs.Says.{requested_says}
 use Rattle.window.specs.Requests.{request_refused, request_ready, request_so}
-use borrow.Author.Rules.{rules}
 use Rattle.window.proofs.mark_requested.Goals as goal
 
 pub shape_of-words-then-k-ne0 : goal.shape_of-words-then-k-ne0

@@ -4,7 +4,6 @@ use Rattle.model.specs.Numbers.{read_clock}
 use Rattle.refusals.specs.Outcomes.{refused_so, admitted}
 use Rattle.observation.specs.Look.{look}
 use Rattle.window.specs.Plain.{look_so}
-use borrow.Author.Rules.{rules}
 use Rattle.window.proofs.observe_blocked.Goals as goal
 
 pub shape_of-words-then-k-ne0 : goal.shape_of-words-then-k-ne0

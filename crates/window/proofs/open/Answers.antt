@@ -2,8 +2,7 @@
 use Rattle.model.specs.Refusals.{opens}
 use Rattle.refusals.specs.Outcomes.{refused_so, opened_so}
 use Rattle.window.specs.Opening.{opening_lengths}
-use mathlib.Core.Path.{◌≡◌, refl}
-use borrow.Author.Rules.{rules}
+use mathlib.Core.Path.{refl}
 use Rattle.window.proofs.open.Goals as goal
 
 pub shape_of-words-then-n-ne0 : goal.shape_of-words-then-n-ne0

@@ -1,9 +1,8 @@
 -- `window::set_fanout_eligible_peers` meets its contract. Assumes nothing.
-use mathlib.Core.Path.{◌≡◌, refl}
-use Rattle.model.specs.Refusals.{Change, changes, checks, clears_preferred, credits_duplicate, sets_fanout}
+use mathlib.Core.Path.{refl}
+use Rattle.model.specs.Refusals.{Change, changes, checks, sets_fanout}
 use Rattle.refusals.specs.Outcomes.{refused_so, admitted}
 use Rattle.window.specs.Changes.{fanout_so}
-use borrow.Author.Rules.{rules}
 use Rattle.window.proofs.set_fanout_eligible_peers.Goals as goal
 
 pub shape_of-words-then-k-ne0 : goal.shape_of-words-then-k-ne0

@@ -2,7 +2,6 @@
 use mathlib.Core.Path.{ap}
 use Rattle.refusals.specs.Outcomes.{query_refused, query_answered, admitted}
 use Rattle.window_queries.specs.Asks.{number}
-use borrow.Author.Rules.{rules}
 use Rattle.window_queries.proofs.active_downloading_peers.Goals as goal
 
 pub returns-then-n-ne0 : goal.returns-then-n-ne0

@@ -3,7 +3,6 @@ use mathlib.Core.Path.{sym, ap, ◌∙◌}
 use Rattle.laws.specs.Whole.{sound_rises}
 use Rattle.refusals.specs.Outcomes.{query_refused, query_answered, admitted}
 use Rattle.window_queries.specs.Asks.{truth}
-use borrow.Author.Rules.{rules}
 use Rattle.window_queries.proofs.contains_pending.Goals as goal
 
 pub returns-then-n-ne0 : goal.returns-then-n-ne0

@@ -2,7 +2,6 @@
 use Rattle.model.specs.Numbers.{read_clock}
 use Rattle.refusals.specs.Outcomes.{query_refused, query_answered, admitted}
 use Rattle.window_queries.specs.Asks.{pair}
-use borrow.Author.Rules.{rules}
 use Rattle.window_queries.proofs.expired_pending_capacity.Goals as goal
 
 pub returns-then-n-ne0 : goal.returns-then-n-ne0

@@ -4,7 +4,6 @@ use Rattle.model.specs.Queries.{perhaps}
 use Rattle.model.specs.Perform.{says}
 use Rattle.model.specs.declared.Pace.{Pace}
 use Rattle.refusals.specs.Outcomes.{query_refused, query_answered, admitted}
-use borrow.Author.Rules.{rules}
 use Rattle.window_queries.proofs.front_interval_ewma_ms.Goals as goal
 
 pub returns-then-n-ne0 : goal.returns-then-n-ne0

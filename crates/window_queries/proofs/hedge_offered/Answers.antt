@@ -2,7 +2,6 @@
 use mathlib.Core.Path.{sym, ap, ◌∙◌}
 use Rattle.refusals.specs.Outcomes.{query_refused, query_answered, admitted}
 use Rattle.window_queries.specs.Asks.{truth}
-use borrow.Author.Rules.{rules}
 use Rattle.window_queries.proofs.hedge_offered.Goals as goal
 
 pub returns-then-n-ne0 : goal.returns-then-n-ne0

@@ -5,7 +5,6 @@ use Rattle.model.specs.Queries.{perhaps}
 use Rattle.model.specs.Perform.{says}
 use Rattle.refusals.specs.Outcomes.{query_refused, query_answered, admitted}
 use Rattle.window_queries.specs.Asks.{a_seat}
-use borrow.Author.Rules.{rules}
 use Rattle.window_queries.proofs.owner_queue_start.Goals as goal
 
 pub returns-then-n-ne0 : goal.returns-then-n-ne0

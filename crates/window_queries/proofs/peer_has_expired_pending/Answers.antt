@@ -3,7 +3,6 @@ use mathlib.Core.Path.{sym, ap, ◌∙◌}
 use Rattle.model.specs.Numbers.{read_clock}
 use Rattle.refusals.specs.Outcomes.{query_refused, query_answered, admitted}
 use Rattle.window_queries.specs.Asks.{a_seat, truth}
-use borrow.Author.Rules.{rules}
 use Rattle.window_queries.proofs.peer_has_expired_pending.Goals as goal
 
 pub returns-then-n-ne0 : goal.returns-then-n-ne0

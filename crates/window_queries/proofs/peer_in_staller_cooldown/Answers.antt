@@ -4,7 +4,6 @@ use Rattle.model.specs.Numbers.{read_clock}
 use Rattle.model.specs.Cooling.{key_of}
 use Rattle.refusals.specs.Outcomes.{query_refused, query_answered, admitted}
 use Rattle.window_queries.specs.Asks.{a_seat, truth}
-use borrow.Author.Rules.{rules}
 use Rattle.window_queries.proofs.peer_in_staller_cooldown.Goals as goal
 
 pub returns-then-n-ne0 : goal.returns-then-n-ne0

@@ -1,7 +1,6 @@
 -- `window_queries::pending_high_water` meets its contract. Assumes nothing.
 use Rattle.refusals.specs.Outcomes.{query_refused, query_answered, admitted}
 use Rattle.window_queries.specs.Asks.{pair}
-use borrow.Author.Rules.{rules}
 use Rattle.window_queries.proofs.pending_high_water.Goals as goal
 
 pub returns-then-n-ne0 : goal.returns-then-n-ne0

@@ -3,7 +3,6 @@ use mathlib.Core.Path.{ap, ◌∙◌}
 use Rattle.model.specs.Perform.{says}
 use Rattle.laws.specs.Whole.{sound_rises}
 use Rattle.refusals.specs.Outcomes.{query_refused, query_answered, admitted}
-use borrow.Author.Rules.{rules}
 use Rattle.window_queries.proofs.pending_owner.Goals as goal
 
 pub returns-then-n-ne0 : goal.returns-then-n-ne0

@@ -1,5 +1,4 @@
 -- `window_queries::perhaps_batch` meets its contract. Assumes nothing.
-use borrow.Author.Rules.{rules}
 use Rattle.window_queries.proofs.perhaps_batch.Goals as goal
 
 pub returns-in-Nothing : goal.returns-in-Nothing

@@ -1,5 +1,4 @@
 -- `window_queries::perhaps_seat` meets its contract. Assumes nothing.
-use borrow.Author.Rules.{rules}
 use Rattle.window_queries.proofs.perhaps_seat.Goals as goal
 
 pub returns-in-Missing : goal.returns-in-Missing

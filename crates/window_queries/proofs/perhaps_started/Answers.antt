@@ -1,5 +1,4 @@
 -- `window_queries::perhaps_started` meets its contract. Assumes nothing.
-use borrow.Author.Rules.{rules}
 use Rattle.window_queries.proofs.perhaps_started.Goals as goal
 
 pub returns-in-NoProbe : goal.returns-in-NoProbe

@@ -1,6 +1,5 @@
 -- `window_queries::perhaps_stored` meets its contract. Assumes nothing.
 use Rattle.window_queries.specs.Asks.{stored}
-use borrow.Author.Rules.{rules}
 use Rattle.window_queries.proofs.perhaps_stored.Goals as goal
 
 pub returns-then-x-eq0 : goal.returns-then-x-eq0

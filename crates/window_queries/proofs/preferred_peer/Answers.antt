@@ -4,7 +4,6 @@ use Rattle.model.specs.Queries.{source_values}
 use Rattle.model.specs.Perform.{says}
 use Rattle.model.specs.declared.Source.{Source}
 use Rattle.refusals.specs.Outcomes.{query_refused, query_answered, admitted}
-use borrow.Author.Rules.{rules}
 use Rattle.window_queries.proofs.preferred_peer.Goals as goal
 
 pub returns-then-n-ne0 : goal.returns-then-n-ne0

@@ -1,10 +1,9 @@
 -- `window_queries::prefix_probe_plan` meets its contract. Assumes nothing.
-use mathlib.Core.Path.{refl, ◌∙◌}
+use mathlib.Core.Path.{refl}
 use Rattle.model.specs.Lists.{pad}
 use Rattle.model.specs.Queries.{reads, probe_plan}
 use Rattle.laws.specs.Pending.{sound_ranged}
 use Rattle.refusals.specs.Outcomes.{query_refused, query_answered, admitted}
-use borrow.Author.Rules.{rules}
 use Rattle.window_queries.proofs.prefix_probe_plan.Goals as goal
 
 pub returns-then-n-ne0 : goal.returns-then-n-ne0

@@ -3,7 +3,6 @@ use mathlib.Core.Path.{ap}
 use Rattle.model.specs.declared.Pace.{Pace}
 use Rattle.refusals.specs.Outcomes.{query_refused, query_answered, admitted}
 use Rattle.window_queries.specs.Asks.{number}
-use borrow.Author.Rules.{rules}
 use Rattle.window_queries.proofs.stall_timeout.Goals as goal
 
 pub returns-then-n-ne0 : goal.returns-then-n-ne0

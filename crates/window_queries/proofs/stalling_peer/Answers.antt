@@ -1,7 +1,6 @@
 -- `window_queries::stalling_peer` meets its contract. Assumes nothing.
 use Rattle.refusals.specs.Outcomes.{query_refused, query_answered, admitted}
 use Rattle.window_queries.specs.Seated.{staller_seated}
-use borrow.Author.Rules.{rules}
 use Rattle.window_queries.proofs.stalling_peer.Goals as goal
 
 pub returns-then-n-ne0 : goal.returns-then-n-ne0

@@ -1,7 +1,6 @@
 -- `lines::cells::byte_of` meets its contract. Assumes nothing.
 use mathlib.Core.Path.{refl}
 use borrow.Author.Tests.{eq-eqb, ne_eqb}
-use borrow.Author.Rules.{rules}
 use Rattle.lines.proofs.cells.byte_of.Goals as goal
 
 pub returns-then-rest-eq0 : goal.returns-then-rest-eq0

@@ -1,5 +1,4 @@
 -- `lines::cells::cell` meets its contract. Assumes nothing.
-use borrow.Author.Rules.{rules}
 use Rattle.lines.proofs.cells.cell.Goals as goal
 
 pub returns-then-shown : goal.returns-then-shown

@@ -6,7 +6,6 @@ use native.Mathlib.Numerals.{add-one}
 use native.Mathlib.Omega.{arith}
 use lib.ListN.{set}
 use Rattle.lines.specs.Cells.{byte_of, rest_of, filled, rest_after, grouped}
-use borrow.Author.Rules.{rules}
 use Rattle.lines.proofs.cells.grouped.Goals as goal
 
 turn : (n : ℕ) (l : List ℕ) (rest k b rest' : ℕ) → k < 26 → b ≡ byte_of k rest → rest' ≡ rest_of k rest → (k ≤ 26) × (l ≡ filled k n) × (rest ≡ rest_after k n)

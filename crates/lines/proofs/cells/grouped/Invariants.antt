@@ -1,12 +1,7 @@
 -- `lines::cells::grouped` meets its contract. At the loop's head the last k places are filled. Assumes nothing.
-use mathlib.Core.Path.{◌≡◌, refl, ap, ◌∙◌}
-use mathlib.Core.List.{List}
-use Prim.Native.Nat.{ℕ, suc, ◌-◌, ◌≤◌, ◌<◌}
-use native.Mathlib.Numerals.{add-one}
-use native.Mathlib.Omega.{arith}
-use lib.ListN.{set}
-use Rattle.lines.specs.Cells.{byte_of, rest_of, filled, rest_after, grouped}
-use borrow.Author.Rules.{rules}
+use mathlib.Core.Path.{◌≡◌}
+use Prim.Native.Nat.{◌-◌, ◌≤◌}
+use Rattle.lines.specs.Cells.{filled, rest_after}
 use Rattle.lines.proofs.cells.grouped.Given as goal
 
 abbrev pub invariant-loop-k : goal.invariant-loop-k

@@ -1,12 +1,8 @@
 -- `lines::cells::put` meets its contract. Assumes nothing.
-use mathlib.Core.Path.{◌≡◌, refl, ap, ◌∙◌}
-use Prim.Native.Nat.{ℕ, ◌+◌, ◌-◌, ◌≤◌}
-use mathlib.Core.List.{List}
-use native.Mathlib.Numerals.{add-one}
-use native.Mathlib.Omega.{arith}
-use lib.ListN.{length, set, get_or}
-use Rattle.lines.specs.Cells.{put_first, put}
-use borrow.Author.Rules.{rules}
+use mathlib.Core.Path.{◌≡◌}
+use Prim.Native.Nat.{◌-◌, ◌≤◌}
+use lib.ListN.{length}
+use Rattle.lines.specs.Cells.{put_first}
 use Rattle.lines.proofs.cells.put.Given as goal
 
 abbrev pub invariant-loop-k : goal.invariant-loop-k

@@ -1,7 +1,6 @@
 -- `lines::cells::rest_of` meets its contract. Assumes nothing.
 use mathlib.Core.Path.{refl}
 use borrow.Author.Tests.{eq-eqb, ne_eqb}
-use borrow.Author.Rules.{rules}
 use Rattle.lines.proofs.cells.rest_of.Goals as goal
 
 pub returns-then-place-eq3 : goal.returns-then-place-eq3

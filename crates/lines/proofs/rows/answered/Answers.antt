@@ -1,7 +1,6 @@
 -- `lines::rows::answered` meets its contract. Assumes nothing.
 use mathlib.Core.Path.{refl}
 use Rattle.lines.specs.Rows.{answered}
-use borrow.Author.Rules.{rules}
 use Rattle.lines.proofs.rows.answered.Goals as goal
 
 pub returns : goal.returns

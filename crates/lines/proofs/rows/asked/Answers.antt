@@ -1,7 +1,6 @@
 -- `lines::rows::asked` meets its contract. Assumes nothing.
 use mathlib.Core.Path.{refl}
 use Rattle.lines.specs.Rows.{asked}
-use borrow.Author.Rules.{rules}
 use Rattle.lines.proofs.rows.asked.Goals as goal
 
 pub returns : goal.returns

@@ -1,7 +1,6 @@
 -- `lines::rows::begun` meets its contract. Assumes nothing.
 use mathlib.Core.Path.{refl}
 use Rattle.lines.specs.Rows.{begun}
-use borrow.Author.Rules.{rules}
 use Rattle.lines.proofs.rows.begun.Goals as goal
 
 pub returns : goal.returns

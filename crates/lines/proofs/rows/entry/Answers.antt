@@ -1,7 +1,6 @@
 -- `lines::rows::entry` meets its contract. Assumes nothing.
 use mathlib.Core.Path.{refl}
 use Rattle.lines.specs.Rows.{entry}
-use borrow.Author.Rules.{rules}
 use Rattle.lines.proofs.rows.entry.Goals as goal
 
 pub returns : goal.returns

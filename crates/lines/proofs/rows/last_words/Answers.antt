@@ -1,5 +1,4 @@
 -- `lines::rows::last_words` meets its contract. Assumes nothing.
-use borrow.Author.Rules.{rules}
 use Rattle.lines.proofs.rows.last_words.Goals as goal
 
 pub returns-then-refuses : goal.returns-then-refuses

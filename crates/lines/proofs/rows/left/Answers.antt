@@ -1,7 +1,6 @@
 -- `lines::rows::left` meets its contract. Assumes nothing.
 use mathlib.Core.Path.{refl}
 use Rattle.lines.specs.Rows.{left}
-use borrow.Author.Rules.{rules}
 use Rattle.lines.proofs.rows.left.Goals as goal
 
 pub returns : goal.returns

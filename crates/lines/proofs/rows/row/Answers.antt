@@ -1,7 +1,6 @@
 -- `lines::rows::row` meets its contract. Assumes nothing.
 use mathlib.Core.Path.{refl}
 use Rattle.lines.specs.Rows.{row}
-use borrow.Author.Rules.{rules}
 use Rattle.lines.proofs.rows.row.Goals as goal
 
 pub returns : goal.returns

@@ -2,7 +2,6 @@
 use mathlib.Core.Path.{sym, ap}
 use Rattle.model.specs.declared.Accepted.{Accepted}
 use Rattle.lines.specs.Words.{accepted}
-use borrow.Author.Rules.{rules}
 use Rattle.lines.proofs.words.accepted.Goals as goal
 
 pub returns-in-Refused : goal.returns-in-Refused

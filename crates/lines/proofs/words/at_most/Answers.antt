@@ -3,7 +3,6 @@ use mathlib.Core.Path.{refl}
 use native.Mathlib.Omega.{arith}
 use borrow.Author.Tests.{le-leb, lt-leb}
 use Rattle.model.specs.Numbers.{lesser}
-use borrow.Author.Rules.{rules}
 use Rattle.lines.proofs.words.at_most.Goals as goal
 
 pub returns-then-k-most : goal.returns-then-k-most

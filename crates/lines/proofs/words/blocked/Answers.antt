@@ -2,7 +2,6 @@
 use mathlib.Core.Path.{sym, ap}
 use Rattle.model.specs.declared.Blocked.{Blocked}
 use Rattle.lines.specs.Words.{blocked}
-use borrow.Author.Rules.{rules}
 use Rattle.lines.proofs.words.blocked.Goals as goal
 
 pub returns-in-Refused : goal.returns-in-Refused

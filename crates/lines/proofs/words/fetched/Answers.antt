@@ -2,7 +2,6 @@
 use mathlib.Core.Path.{sym, ap}
 use Rattle.model.specs.declared.Fetch.{Fetch}
 use Rattle.lines.specs.Words.{fetched}
-use borrow.Author.Rules.{rules}
 use Rattle.lines.proofs.words.fetched.Goals as goal
 
 pub returns-in-Refused : goal.returns-in-Refused

@@ -1,7 +1,6 @@
 -- `lines::words::got` meets its contract. Assumes nothing.
 use mathlib.Core.Path.{refl}
 use borrow.Author.Tests.{le-leb, lt-leb}
-use borrow.Author.Rules.{rules}
 use Rattle.lines.proofs.words.got.Goals as goal
 
 pub returns-then-n-le1 : goal.returns-then-n-le1

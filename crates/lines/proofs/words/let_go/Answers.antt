@@ -2,7 +2,6 @@
 use mathlib.Core.Path.{sym, ap}
 use Rattle.model.specs.declared.LetGo.{LetGo}
 use Rattle.lines.specs.Words.{let_go}
-use borrow.Author.Rules.{rules}
 use Rattle.lines.proofs.words.let_go.Goals as goal
 
 pub returns-in-Refused : goal.returns-in-Refused

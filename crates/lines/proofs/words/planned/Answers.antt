@@ -2,7 +2,6 @@
 use mathlib.Core.Path.{sym, ap}
 use Rattle.model.specs.declared.NextRequest.{NextRequest}
 use Rattle.lines.specs.Words.{planned}
-use borrow.Author.Rules.{rules}
 use Rattle.lines.proofs.words.planned.Goals as goal
 
 pub returns-in-Refused : goal.returns-in-Refused

@@ -2,7 +2,6 @@
 use mathlib.Core.Path.{◌∙◌, sym, ap}
 use Rattle.model.specs.declared.Received.{Received}
 use Rattle.lines.specs.Words.{received}
-use borrow.Author.Rules.{rules}
 use Rattle.lines.proofs.words.received.Goals as goal
 
 pub returns-in-Refused : goal.returns-in-Refused

@@ -5,7 +5,6 @@ use Prim.Native.Nat.{ℕ}
 use native.Mathlib.Omega.{arith}
 use lib.ListN.{get_or}
 use Rattle.lines.specs.Words.{refusals}
-use borrow.Author.Rules.{rules}
 use Rattle.lines.proofs.words.refusal_of.Goals as goal
 
 pub offset_bounds-i : goal.offset_bounds-i

@@ -2,7 +2,6 @@
 use mathlib.Core.Path.{sym, ap}
 use Rattle.model.specs.declared.Rejected.{Rejected}
 use Rattle.lines.specs.Words.{rejected}
-use borrow.Author.Rules.{rules}
 use Rattle.lines.proofs.words.rejected.Goals as goal
 
 pub returns-in-Refused : goal.returns-in-Refused

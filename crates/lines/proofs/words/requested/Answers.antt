@@ -2,7 +2,6 @@
 use mathlib.Core.Path.{sym, ap}
 use Rattle.model.specs.declared.Requested.{Requested}
 use Rattle.lines.specs.Words.{requested}
-use borrow.Author.Rules.{rules}
 use Rattle.lines.proofs.words.requested.Goals as goal
 
 pub returns-in-Refused : goal.returns-in-Refused

@@ -1,6 +1,5 @@
 -- `lines::words::verdict` meets its contract. Assumes nothing.
 use mathlib.Core.Path.{refl}
-use borrow.Author.Rules.{rules}
 use Rattle.lines.proofs.words.verdict.Goals as goal
 
 pub returns-then-right : goal.returns-then-right

@@ -1,6 +1,5 @@
 -- `recorded::answers::alone` meets its contract. Assumes nothing.
 use Rattle.recorded.specs.Said.{alone}
-use Rattle.std.proofs.Common.{rules}
 use Rattle.recorded.proofs.answers.alone.Goals as goal
 
 pub returns : goal.returns

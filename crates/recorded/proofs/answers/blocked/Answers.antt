@@ -1,5 +1,5 @@
 -- `recorded::answers::blocked` meets its contract. Assumes nothing.
-use Rattle.std.proofs.Common.{ap, ◌∙◌, rules}
+use Rattle.std.proofs.Common.{ap, ◌∙◌}
 use Rattle.recorded.specs.Said.{blocked_row}
 use Rattle.recorded.proofs.answers.blocked.Goals as goal
 

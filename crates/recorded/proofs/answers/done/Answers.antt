@@ -1,5 +1,4 @@
 -- `recorded::answers::done` meets its contract. Assumes nothing.
-use Rattle.std.proofs.Common.{rules}
 use Rattle.recorded.proofs.answers.done.Goals as goal
 
 pub returns : goal.returns

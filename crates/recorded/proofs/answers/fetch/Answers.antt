@@ -1,5 +1,5 @@
 -- `recorded::answers::fetch` meets its contract. Assumes nothing.
-use Rattle.std.proofs.Common.{ap, ◌∙◌, rules}
+use Rattle.std.proofs.Common.{ap, ◌∙◌}
 use Rattle.recorded.specs.Said.{number_row}
 use Rattle.recorded.proofs.answers.fetch.Goals as goal
 

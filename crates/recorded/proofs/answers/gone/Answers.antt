@@ -1,5 +1,5 @@
 -- `recorded::answers::gone` meets its contract. Assumes nothing.
-use Rattle.std.proofs.Common.{ap, ◌∙◌, rules}
+use Rattle.std.proofs.Common.{ap, ◌∙◌}
 use Rattle.recorded.specs.Said.{gone_row}
 use Rattle.recorded.proofs.answers.gone.Goals as goal
 

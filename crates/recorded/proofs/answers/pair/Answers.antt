@@ -1,5 +1,5 @@
 -- `recorded::answers::pair` meets its contract. Assumes nothing.
-use Rattle.std.proofs.Common.{ap, ◌∙◌, rules}
+use Rattle.std.proofs.Common.{ap, ◌∙◌}
 use Rattle.recorded.specs.Said.{pair_row}
 use Rattle.recorded.proofs.answers.pair.Goals as goal
 

@@ -1,5 +1,5 @@
 -- `recorded::answers::perhaps` meets its contract. Assumes nothing.
-use Rattle.std.proofs.Common.{ap, ◌∙◌, rules}
+use Rattle.std.proofs.Common.{ap, ◌∙◌}
 use Rattle.recorded.specs.Said.{perhaps_row}
 use Rattle.recorded.proofs.answers.perhaps.Goals as goal
 

@@ -1,5 +1,5 @@
 -- `recorded::answers::perhaps_pair` meets its contract. Assumes nothing.
-use Rattle.std.proofs.Common.{ap, ◌∙◌, rules}
+use Rattle.std.proofs.Common.{ap, ◌∙◌}
 use Rattle.recorded.specs.Said.{perhaps_pair_row}
 use Rattle.recorded.proofs.answers.perhaps_pair.Goals as goal
 

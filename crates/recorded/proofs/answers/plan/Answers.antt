@@ -1,5 +1,5 @@
 -- `recorded::answers::plan` meets its contract. Assumes nothing.
-use Rattle.std.proofs.Common.{ap, ◌∙◌, rules}
+use Rattle.std.proofs.Common.{ap, ◌∙◌}
 use Rattle.recorded.specs.Said.{plan_row}
 use Rattle.recorded.proofs.answers.plan.Goals as goal
 

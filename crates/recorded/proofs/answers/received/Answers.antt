@@ -1,5 +1,5 @@
 -- `recorded::answers::received` meets its contract. Assumes nothing.
-use Rattle.std.proofs.Common.{ap, ◌∙◌, rules}
+use Rattle.std.proofs.Common.{ap, ◌∙◌}
 use Rattle.recorded.specs.Said.{received_row}
 use Rattle.recorded.proofs.answers.received.Goals as goal
 

@@ -1,5 +1,5 @@
 -- `recorded::answers::rejected` meets its contract. Assumes nothing.
-use Rattle.std.proofs.Common.{ap, ◌∙◌, rules}
+use Rattle.std.proofs.Common.{ap, ◌∙◌}
 use Rattle.recorded.specs.Said.{rejected_row}
 use Rattle.recorded.proofs.answers.rejected.Goals as goal
 

@@ -1,5 +1,5 @@
 -- `recorded::arguments::args_at` meets its contract. Assumes nothing.
-use Rattle.std.proofs.Common.{ap, ◌∙◌, rules}
+use Rattle.std.proofs.Common.{ap, ◌∙◌}
 use Rattle.recorded.specs.Stream.{hash_from}
 use Rattle.recorded.specs.Args.{args_by, args_at}
 use Rattle.recorded.proofs.arguments.args_at.Goals as goal

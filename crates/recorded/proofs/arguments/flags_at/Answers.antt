@@ -1,5 +1,4 @@
 -- `recorded::arguments::flags_at` meets its contract. Assumes nothing.
-use Rattle.std.proofs.Common.{rules}
 use Rattle.recorded.proofs.arguments.flags_at.Goals as goal
 
 pub returns : goal.returns

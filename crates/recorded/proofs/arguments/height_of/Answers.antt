@@ -1,5 +1,4 @@
 -- `recorded::arguments::height_of` meets its contract. Assumes nothing.
-use Rattle.std.proofs.Common.{rules}
 use Rattle.recorded.proofs.arguments.height_of.Goals as goal
 
 pub returns : goal.returns

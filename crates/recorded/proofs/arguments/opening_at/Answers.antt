@@ -1,5 +1,5 @@
 -- `recorded::arguments::opening_at` meets its contract. Assumes nothing.
-use Rattle.std.proofs.Common.{ap, ◌∙◌, rules}
+use Rattle.std.proofs.Common.{ap, ◌∙◌}
 use Rattle.recorded.specs.Stream.{row_at}
 use Rattle.recorded.specs.Args.{settings_of, opening_at}
 use Rattle.recorded.proofs.arguments.opening_at.Goals as goal

@@ -1,5 +1,5 @@
 -- `recorded::compare::compared` meets its contract. Assumes nothing.
-use Rattle.std.proofs.Common.{refl, rules}
+use Rattle.std.proofs.Common.{refl}
 use Rattle.recorded.proofs.compare.compared.Goals as goal
 
 pub returns : goal.returns

@@ -1,6 +1,6 @@
 -- `recorded::compare::same_part` meets its contract. Assumes nothing.
-use Rattle.std.proofs.Common.{◌≡◌, ℕ, suc, ◌+◌, ◌-◌, ◌%◌, ◌^◌, ◌≤◌, Bool, ◌&&◌, ◌||◌, eqb, leb, List, length, get_or, refl, ap, ◌∙◌, arith, rules}
-use Rattle.recorded.specs.Same.{skips, same_part}
+use Rattle.std.proofs.Common.{◌≡◌, ◌-◌, ◌≤◌, length}
+use Rattle.recorded.specs.Same.{same_part}
 use Rattle.recorded.proofs.compare.same_part.Given as goal
 
 abbrev pub invariant-loop-i : goal.invariant-loop-i

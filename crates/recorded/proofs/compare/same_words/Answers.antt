@@ -1,5 +1,5 @@
 -- `recorded::compare::same_words` meets its contract. Assumes nothing.
-use Rattle.std.proofs.Common.{◌≡◌, ℕ, suc, ◌+◌, ◌-◌, ◌≤◌, Bool, ◌&&◌, eqb, List, length, get_or, refl, ap, ◌∙◌, arith, rules}
+use Rattle.std.proofs.Common.{◌≡◌, ℕ, suc, ◌+◌, ◌-◌, Bool, ◌&&◌, eqb, List, length, get_or, refl, ap, ◌∙◌, arith}
 use Rattle.recorded.specs.Same.{same_below, same_rows}
 use Rattle.recorded.proofs.compare.same_words.Goals as goal
 

@@ -1,6 +1,6 @@
 -- `recorded::compare::same_words` meets its contract. Assumes nothing.
-use Rattle.std.proofs.Common.{◌≡◌, ℕ, suc, ◌+◌, ◌-◌, ◌≤◌, Bool, ◌&&◌, eqb, List, length, get_or, refl, ap, ◌∙◌, arith, rules}
-use Rattle.recorded.specs.Same.{same_below, same_rows}
+use Rattle.std.proofs.Common.{◌≡◌, ◌-◌, ◌≤◌, length}
+use Rattle.recorded.specs.Same.{same_below}
 use Rattle.recorded.proofs.compare.same_words.Given as goal
 
 abbrev pub invariant-loop-i : goal.invariant-loop-i

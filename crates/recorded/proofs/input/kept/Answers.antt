@@ -1,5 +1,5 @@
 -- `recorded::input::kept` meets its contract. Assumes nothing.
-use Rattle.std.proofs.Common.{◌≡◌, ℕ, suc, ◌≤◌, List, [], ◌∷◌, length, set, sym, refl, ap, ◌∙◌, add-one, arith, length-set, rules, ne_eqb}
+use Rattle.std.proofs.Common.{◌≡◌, ℕ, suc, ◌≤◌, List, [], ◌∷◌, length, sym, refl, ap, ◌∙◌, add-one, arith, length-set, ne_eqb}
 use lib.Seq.{set_out}
 use Rattle.recorded.specs.Input.{put_at}
 use Rattle.recorded.proofs.input.kept.Goals as goal

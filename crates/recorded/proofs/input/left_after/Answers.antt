@@ -1,5 +1,5 @@
 -- `recorded::input::left_after` meets its contract. Assumes nothing.
-use Rattle.std.proofs.Common.{refl, rules, ne_eqb}
+use Rattle.std.proofs.Common.{refl, ne_eqb}
 use Rattle.recorded.proofs.input.left_after.Goals as goal
 
 pub returns-then-left-eq0 : goal.returns-then-left-eq0

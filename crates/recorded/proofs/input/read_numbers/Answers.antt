@@ -1,6 +1,6 @@
 -- `recorded::input::read_numbers` meets its contract: at the loop's head the numbers of the bytes that are left are still to be put. Assumes nothing.
-use Rattle.std.proofs.Common.{◌≡◌, ℕ, suc, ◌+◌, ◌-◌, ◌<◌, ◌≤◌, List, [], length, get_or, drop, sym, refl, ap, ◌∙◌, arith, drop_of_length-le, drop-cons, rules}
-use Rattle.recorded.specs.Input.{left_after, value_after, emitted, numbers_from, put_at, Keeps}
+use Rattle.std.proofs.Common.{◌≡◌, ℕ, suc, ◌+◌, ◌-◌, ◌<◌, ◌≤◌, List, length, get_or, drop, sym, refl, ap, ◌∙◌, arith, drop_of_length-le, drop-cons}
+use Rattle.recorded.specs.Input.{left_after, value_after, emitted, numbers_from, put_at}
 use Rattle.recorded.proofs.input.read_numbers.Goals as goal
 
 -- one byte more

@@ -1,5 +1,5 @@
 -- `recorded::input::value_after` meets its contract. Assumes nothing.
-use Rattle.std.proofs.Common.{refl, arith, rules, ne_eqb}
+use Rattle.std.proofs.Common.{refl, arith, ne_eqb}
 use Rattle.recorded.proofs.input.value_after.Goals as goal
 
 pub returns-then-left-eq0 : goal.returns-then-left-eq0

@@ -1,5 +1,4 @@
 -- `recorded::runs::next_run` meets its contract. Assumes nothing.
-use Rattle.std.proofs.Common.{rules}
 use Rattle.recorded.proofs.runs.next_run.Goals as goal
 
 pub returns : goal.returns

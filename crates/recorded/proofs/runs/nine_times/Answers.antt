@@ -1,5 +1,5 @@
 -- `recorded::runs::nine_times` meets its contract. Assumes nothing.
-use Rattle.std.proofs.Common.{◌≡◌, ℕ, ◌+◌, ◌*◌, ◌%◌, ◌^◌, sym, ap, ◌∙◌, arith, rules}
+use Rattle.std.proofs.Common.{◌≡◌, ℕ, ◌+◌, ◌*◌, ◌%◌, ◌^◌, ap, ◌∙◌, arith}
 use Rattle.recorded.specs.Stream.{on}
 use Rattle.recorded.proofs.runs.nine_times.Goals as goal
 

@@ -1,8 +1,7 @@
 -- `recorded::runs::put_run` meets its contract. Assumes nothing.
-use Rattle.std.proofs.Common.{◌≡◌, ℕ, ◌-◌, List, length, get_or, refl, ap, ◌∙◌, arith, length-set, rules}
-use Rattle.recorded.specs.Stream.{nth}
+use Rattle.std.proofs.Common.{◌≡◌, ℕ, ◌-◌, get_or, refl, ap, ◌∙◌, arith, length-set}
 use Rattle.recorded.specs.Records.{word_after, run_put}
-use Rattle.recorded.proofs.Turns.{Upto, upto_start, upto_step, upto_done}
+use Rattle.recorded.proofs.Turns.{upto_start, upto_step, upto_done}
 use Rattle.recorded.proofs.runs.put_run.Invariants.{new}
 use Rattle.recorded.proofs.runs.put_run.Goals as goal
 

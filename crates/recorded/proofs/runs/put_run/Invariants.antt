@@ -1,8 +1,8 @@
 -- `recorded::runs::put_run` meets its contract. Assumes nothing.
-use Rattle.std.proofs.Common.{◌≡◌, ℕ, ◌-◌, List, length, get_or, refl, ap, ◌∙◌, arith, length-set, rules}
+use Rattle.std.proofs.Common.{◌≡◌, ℕ, ◌-◌, List, length, get_or}
 use Rattle.recorded.specs.Stream.{nth}
-use Rattle.recorded.specs.Records.{word_after, run_put}
-use Rattle.recorded.proofs.Turns.{Upto, upto_start, upto_step, upto_done}
+use Rattle.recorded.specs.Records.{word_after}
+use Rattle.recorded.proofs.Turns.{Upto}
 use Rattle.recorded.proofs.runs.put_run.Given as goal
 
 abbrev pub new : List ℕ → ℕ → ℕ → ℕ → ℕ

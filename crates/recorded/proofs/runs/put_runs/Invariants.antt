@@ -1,7 +1,6 @@
 -- `recorded::runs::put_runs` meets its contract: at the loop's head the runs that are left are still to be put. Assumes nothing.
-use Rattle.std.proofs.Common.{◌≡◌, ℕ, zero, suc, ◌-◌, ◌<◌, ◌≤◌, true, false, cond, leb, List, length, sym, refl, ap, ◌∙◌, not-suc-le-zero, arith, rules, le-leb}
-use borrow.Author.Tests.{lt-leb}
-use Rattle.recorded.specs.Records.{run_put, next_run, runs_put}
+use Rattle.std.proofs.Common.{◌≡◌, ◌-◌, length}
+use Rattle.recorded.specs.Records.{runs_put}
 use Rattle.recorded.proofs.runs.put_runs.Given as goal
 
 abbrev pub invariant-loop-turns : goal.invariant-loop-turns

@@ -1,5 +1,5 @@
 -- `recorded::runs::record_at` meets its contract. Assumes nothing.
-use Rattle.std.proofs.Common.{ap, ◌∙◌, rules}
+use Rattle.std.proofs.Common.{ap, ◌∙◌}
 use Rattle.recorded.specs.Stream.{on}
 use Rattle.recorded.specs.Records.{nine_times, record_at}
 use Rattle.recorded.proofs.runs.record_at.Goals as goal

@@ -1,5 +1,5 @@
 -- `recorded::runs::word_after` meets its contract. Assumes nothing.
-use Rattle.std.proofs.Common.{ℕ, ◌-◌, cond, ◌&&◌, refl, ap, ◌∙◌, arith, rules, le-ltb, lt-ltb, le-leb}
+use Rattle.std.proofs.Common.{ℕ, ◌-◌, refl, ap, ◌∙◌, le-ltb, lt-ltb, le-leb}
 use borrow.Author.Tests.{lt-leb}
 use Rattle.recorded.specs.Stream.{nth}
 use Rattle.recorded.proofs.runs.word_after.Goals as goal

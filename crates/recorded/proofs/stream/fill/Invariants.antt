@@ -1,7 +1,7 @@
 -- `recorded::stream::fill` meets its contract. Assumes nothing.
-use Rattle.std.proofs.Common.{◌≡◌, ℕ, ◌-◌, List, length, refl, ◌∙◌, arith, length-set, rules}
+use Rattle.std.proofs.Common.{◌≡◌, ℕ, ◌-◌, List, length}
 use Rattle.recorded.specs.Stream.{nth}
-use Rattle.recorded.proofs.Turns.{Upto, upto_start, upto_step, upto_done}
+use Rattle.recorded.proofs.Turns.{Upto}
 use Rattle.recorded.proofs.stream.fill.Given as goal
 
 -- what stands i places on

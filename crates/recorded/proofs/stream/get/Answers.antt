@@ -1,5 +1,5 @@
 -- `recorded::stream::get` meets its contract. Assumes nothing.
-use Rattle.std.proofs.Common.{sym, arith, rules}
+use Rattle.std.proofs.Common.{sym, arith}
 use lib.ListN.{get_or-eq_default}
 use Rattle.recorded.proofs.stream.get.Goals as goal
 

@@ -1,5 +1,4 @@
 -- `recorded::stream::hash_at` meets its contract. Assumes nothing.
-use Rattle.std.proofs.Common.{rules}
 use Rattle.model.specs.Hash.{hash}
 use Rattle.recorded.proofs.stream.hash_at.Goals as goal
 

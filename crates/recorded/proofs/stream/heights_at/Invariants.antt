@@ -1,7 +1,7 @@
 -- `recorded::stream::heights_at` meets its contract. Assumes nothing.
-use Rattle.std.proofs.Common.{◌≡◌, ℕ, ◌-◌, ◌≤◌, List, length, replicate, ap, ◌∙◌, arith, length-set, rules}
-use Rattle.recorded.specs.Stream.{nth, low, heights_at}
-use Rattle.recorded.proofs.Turns.{Upto, upto_start, upto_step, upto_done}
+use Rattle.std.proofs.Common.{◌≡◌, ℕ, ◌-◌, List, length, replicate}
+use Rattle.recorded.specs.Stream.{nth, low}
+use Rattle.recorded.proofs.Turns.{Upto}
 use Rattle.recorded.proofs.stream.heights_at.Given as goal
 
 abbrev pub new : List ℕ → ℕ → ℕ → ℕ → ℕ

@@ -1,5 +1,5 @@
 -- `recorded::stream::low` meets its contract. Assumes nothing.
-use Rattle.std.proofs.Common.{refl, arith, rules}
+use Rattle.std.proofs.Common.{refl, arith}
 use Rattle.recorded.proofs.stream.low.Goals as goal
 
 pub overflow_cast-result : goal.overflow_cast-result

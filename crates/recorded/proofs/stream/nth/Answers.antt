@@ -1,5 +1,5 @@
 -- `recorded::stream::nth` meets its contract. Assumes nothing.
-use Rattle.std.proofs.Common.{ℕ, get_or, ap, ◌∙◌, rules}
+use Rattle.std.proofs.Common.{ℕ, get_or, ap, ◌∙◌}
 use Rattle.recorded.proofs.stream.nth.Goals as goal
 
 pub returns : goal.returns

@@ -1,5 +1,5 @@
 -- `recorded::stream::seats_at` meets its contract. Assumes nothing.
-use Rattle.std.proofs.Common.{refl, rules}
+use Rattle.std.proofs.Common.{refl}
 use Rattle.recorded.specs.Stream.{row_at}
 use Rattle.recorded.proofs.stream.seats_at.Goals as goal
 

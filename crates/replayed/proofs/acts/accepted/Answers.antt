@@ -1,7 +1,6 @@
 -- `replayed::acts::accepted` meets its contract. Assumes nothing.
 use mathlib.Core.Path.{refl, sym}
 use Prim.Native.Nat.{ℕ}
-use borrow.Author.Rules.{rules}
 use Rattle.lend.specs.Cases.{picks_other}
 use Rattle.lend.specs.Goes.{leaves_as, leaves_at}
 use Rattle.model.specs.Refusals.{Call, changes, clears_preferred, opens}

@@ -1,6 +1,5 @@
 -- `replayed::acts::changes` meets its contract. Assumes nothing.
 use mathlib.Core.Path.{◌∙◌, refl, sym}
-use borrow.Author.Rules.{rules}
 use Rattle.flat.specs.Flat.{done_flat}
 use Rattle.lend.specs.Cases.{picks_other}
 use Rattle.lend.specs.Goes.{asked_leaves, leaves_as, quiet_query}

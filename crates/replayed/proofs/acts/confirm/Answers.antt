@@ -2,7 +2,6 @@
 use mathlib.Core.Path.{sym}
 use lib.Seq.{length-take-le}
 use lib.ListN.{take}
-use borrow.Author.Rules.{rules}
 use Rattle.lend.specs.Goes.{leaves_as}
 use Rattle.model.specs.Refusals.{changes, confirms_probe}
 use Rattle.replayed.proofs.acts.confirm.Goals as goal

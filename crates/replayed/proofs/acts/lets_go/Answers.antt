@@ -1,7 +1,6 @@
 -- `replayed::acts::lets_go` meets its contract. Assumes nothing.
 use mathlib.Core.Path.{◌∙◌, ap, refl, sym}
 use Prim.Native.Nat.{ℕ}
-use borrow.Author.Rules.{rules}
 use Rattle.lend.specs.Cases.{picks_other}
 use Rattle.lend.specs.Goes.{goes_as, goes_at}
 use Rattle.model.specs.Refusals.{Call, changes, credits, requeues, retains, retires}

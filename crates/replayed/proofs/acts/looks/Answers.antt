@@ -1,6 +1,5 @@
 -- `replayed::acts::looks` meets its contract. Assumes nothing.
 use mathlib.Core.Path.{sym}
-use borrow.Author.Rules.{rules}
 use Rattle.lend.specs.Goes.{leaves_as}
 use Rattle.model.specs.Refusals.{changes, observes}
 use Rattle.observation.specs.Look.{look}

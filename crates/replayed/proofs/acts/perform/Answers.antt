@@ -1,6 +1,5 @@
 -- `replayed::acts::perform` meets its contract. Assumes nothing.
 use mathlib.Core.Path.{◌∙◌, sym}
-use borrow.Author.Rules.{rules}
 use Rattle.recorded.specs.declared.Args.{Args}
 use Rattle.replayed.specs.Calls.{call_at, letting_go, quiet_at, says_gone, says_received, says_rejected}
 use Rattle.replayed.specs.Told.{is_quiet, is_received, is_rejected, is_release, performs_by, said_as}

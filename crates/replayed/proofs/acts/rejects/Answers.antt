@@ -1,6 +1,5 @@
 -- `replayed::acts::rejects` meets its contract. Assumes nothing.
 use mathlib.Core.Path.{sym}
-use borrow.Author.Rules.{rules}
 use Rattle.flat.specs.Flat.{rejected_flat}
 use Rattle.lend.specs.Goes.{goes_as}
 use Rattle.model.specs.Refusals.{changes, rejects}

@@ -1,5 +1,4 @@
 -- `replayed::acts::releases` meets its contract. Assumes nothing.
-use borrow.Author.Rules.{rules}
 use Rattle.flat.specs.Flat.{gone_flat}
 use Rattle.model.specs.Refusals.{changes}
 use Rattle.recorded.specs.Said.{gone_row}

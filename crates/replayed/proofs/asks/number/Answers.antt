@@ -1,5 +1,4 @@
 -- `replayed::asks::number` meets its contract. Assumes nothing.
-use borrow.Author.Rules.{rules}
 use Rattle.model.specs.Queries.{asks_count_for}
 use Rattle.replayed.specs.Calls.{number_query, numbers_asked}
 use Rattle.replayed.specs.Told.{asked_at, asked_other}

@@ -1,5 +1,4 @@
 -- `replayed::asks::pair` meets its contract. Assumes nothing.
-use borrow.Author.Rules.{rules}
 use Rattle.model.specs.Queries.{asks_expired_capacity}
 use Rattle.replayed.specs.Calls.{pair_query, pairs_asked}
 use Rattle.replayed.specs.Told.{asked_at, asked_other}

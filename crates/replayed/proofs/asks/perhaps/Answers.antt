@@ -1,5 +1,4 @@
 -- `replayed::asks::perhaps` meets its contract. Assumes nothing.
-use borrow.Author.Rules.{rules}
 use Rattle.model.specs.Queries.{probe_start, reads}
 use Rattle.replayed.specs.Calls.{perhaps_asked, perhaps_query}
 use Rattle.replayed.specs.Told.{asked_at, asked_other}

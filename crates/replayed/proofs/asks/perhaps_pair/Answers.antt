@@ -1,5 +1,4 @@
 -- `replayed::asks::perhaps_pair` meets its contract. Assumes nothing.
-use borrow.Author.Rules.{rules}
 use Rattle.model.specs.Queries.{asks_compute_capacity}
 use Rattle.replayed.specs.Calls.{perhaps_pair_query, perhaps_pairs_asked}
 use Rattle.replayed.specs.Told.{asked_at, asked_other}

@@ -1,5 +1,4 @@
 -- `replayed::asks::plan` meets its contract. Assumes nothing.
-use borrow.Author.Rules.{rules}
 use Rattle.replayed.specs.Told.{hashes_told, plan_told}
 use Rattle.replayed.proofs.asks.plan.Goals as goal
 

@@ -1,6 +1,5 @@
 -- `replayed::asks::query` meets its contract. Assumes nothing.
 use mathlib.Core.Path.{◌∙◌, ap}
-use borrow.Author.Rules.{rules}
 use Rattle.flat.specs.Flat.{number_flat, pair_flat, perhaps_flat, perhaps_pair_flat}
 use Rattle.model.specs.Perform.{Answer}
 use Rattle.recorded.specs.Said.{number_row, pair_row, perhaps_pair_row, perhaps_row}

@@ -1,5 +1,4 @@
 -- `replayed::asks::truth` meets its contract. Assumes nothing.
-use borrow.Author.Rules.{rules}
 use Rattle.model.specs.Queries.{asks_cooldown}
 use Rattle.replayed.specs.Calls.{truth_query, truths_asked}
 use Rattle.replayed.specs.Told.{asked_at, asked_other}
