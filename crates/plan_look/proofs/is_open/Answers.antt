@@ -1,4 +1,5 @@
 -- `plan_look::is_open` meets its contract. Assumes nothing.
+use mathlib.Core.Bool.{◌||◌}
 use mathlib.Core.Path.{sym, ap, ◌∙◌}
 use mathlib.Core.Bool.{Bool, not}
 use Rattle.model.specs.Planning.{names}

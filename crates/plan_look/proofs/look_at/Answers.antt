@@ -1,4 +1,5 @@
 -- `plan_look::look_at` meets its contract. Assumes nothing.
+use mathlib.Core.Bool.{◌||◌}
 use mathlib.Core.Bool.{not}
 use Rattle.std.proofs.Common.{ap}
 use lib.ListN.{take}

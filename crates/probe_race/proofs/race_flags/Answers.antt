@@ -1,4 +1,5 @@
 -- `probe_race::race_flags` meets its contract: the seats before s are flagged. Assumes nothing.
+use mathlib.Core.Bool.{◌||◌}
 use mathlib.Core.Path.{◌≡◌, refl, ap, ◌∙◌, subst}
 use mathlib.Core.Bool.{cond, not}
 use Prim.Native.Nat.{ℕ, ◌-◌}

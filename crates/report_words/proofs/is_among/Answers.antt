@@ -1,4 +1,5 @@
 -- `report_words::is_among` meets its contract: at the loop's head `found` is said of the first i. Assumes nothing.
+use mathlib.Core.Bool.{◌||◌}
 use mathlib.Core.Path.{◌≡◌, refl, sym, ◌∙◌}
 use mathlib.Core.Bool.{Bool}
 use mathlib.Core.List.{List}

@@ -1,4 +1,5 @@
 -- `recorded::compare::same_part` meets its contract. Assumes nothing.
+use Rattle.std.proofs.Common.{◌||◌}
 use Rattle.std.proofs.Common.{◌≡◌, ℕ, suc, ◌+◌, ◌-◌, ◌%◌, ◌^◌, Bool, ◌&&◌, eqb, leb, List, length, get_or, refl, ap, ◌∙◌, arith}
 use Rattle.recorded.specs.Same.{skips, same_part}
 use Rattle.recorded.proofs.compare.same_part.Goals as goal
