@@ -11,7 +11,8 @@ use Rattle.model.specs.declared.Settings.{Settings}
 use Rattle.laws.specs.Bag.{weigh}
 use Rattle.laws.specs.Sound.{Sound}
 use Rattle.laws.specs.Fits.{Fits, FitsChange}
-use Rattle.laws.specs.Kept.{accepted_is, sound_then, changed_sound, opens_sound}
+use Rattle.laws.specs.Kept.{accepted_is, sound_then, opens_sound}
+use Rattle.laws.proofs.Kept.{changed_sound}
 use Rattle.laws.specs.Words.{sound_words}
 use Rattle.history.specs.Run.{Act, Done, Run, run_step, run, on_words, AllFit}
 use Rattle.history.specs.Book.{Line, Mark, pending_lines, marks, opens_entries, writes, own_by, Book, own_refusal, book_step, book, new_book}

@@ -26,7 +26,7 @@ use Rattle.laws.specs.Numbers.{both, lesser_le_first, lesser_le_second}
 use Rattle.laws.specs.Every.{and_so, blocks_le}
 use Rattle.laws.specs.Entries.{Rising, Picks, each_map}
 use Rattle.laws.specs.Sound.{Sound}
-use Rattle.laws.specs.PlansKept.{plans_lets, plans_retry_lets}
+use Rattle.laws.proofs.PlansKept.{plans_lets, plans_retry_lets}
 use Rattle.laws.specs.Fits.{FitsChange}
 use Rattle.plan_laws.specs.Lists.{Every, every_map, none_any, none_all}
 use Rattle.plan_laws.specs.Named.{NamesOnce, hashes_of, times_hashes, once_listed}
