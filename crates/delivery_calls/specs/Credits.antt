@@ -10,7 +10,7 @@ use Rattle.model.specs.declared.Hash.{Hash}
 use Rattle.model.specs.declared.Height.{Height}
 use Rattle.laws.specs.Sound.{Sound}
 use Rattle.laws.specs.Lets.{lets_then}
-use Rattle.laws.specs.RacesKept.{resolve_lets, probe_lets}
+use Rattle.laws.proofs.RacesKept.{resolve_lets, probe_lets}
 use Rattle.calls.specs.Credits.{resolved_none, resolved_some}
 use Rattle.report_words.specs.Report.{releases_of, length_releases}
 

@@ -24,8 +24,9 @@ use Rattle.laws.specs.Bag.{one, weigh_one}
 use Rattle.laws.specs.Entries.{Picks, picks_weigh}
 use Rattle.laws.specs.Sound.{Sound, SoundSource}
 use Rattle.laws.specs.Whole.{Holds}
-use Rattle.laws.specs.Lets.{Lets, lets_stay, lets_then, remove_lets}
-use Rattle.laws.specs.CallsKept.{credit_lets}
+use Rattle.laws.specs.Lets.{Lets, lets_stay, lets_then}
+use Rattle.laws.proofs.Lets.{remove_lets}
+use Rattle.laws.proofs.CallsKept.{credit_lets}
 use Rattle.report_words.specs.Report.{nine, release_from, releases_of, length_releases}
 
 -- what a delivery itself lets go

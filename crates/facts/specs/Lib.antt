@@ -7,4 +7,3 @@ pub mod Lists
 pub mod Sound
 pub mod Entries
 pub mod Seats
-pub mod Whole

@@ -10,7 +10,7 @@ use Rattle.model.specs.Layout.{start_ok, starts_ok}
 use Rattle.model.specs.declared.Entry.{Entry}
 use Rattle.laws.specs.Numbers.{both, and_left, and_right, and_both}
 use Rattle.facts.specs.Flags.{same, Says, says_le, says_eq, says_and, says_iff}
-use Rattle.facts.specs.Words.{at, count, latest, start, body, seat_key, cooling, racer, oldest_of, start_by, most_raced, seat_by, seat_fits}
+use Rattle.facts.specs.Words.{at, count, latest, start, body, seat_key, cooling, racer, oldest_of, start_by, most_raced}
 
 -- a start by its oldest, in the model's order
 pub start_is : (c old s : ℕ) → start_by (c + 1) old s ≡ start_ok c old s
@@ -88,18 +88,3 @@ pub record Seat (ws : List ℕ) (s : ℕ) : Type 0 where
   pub keys : seat_key ws s ≤ max_seat
   pub cools : cooling ws s ≤ latest ws
   pub races : racer ws s ≤ most_raced (at ws 61)
-
-pub seat_says : (ws : List ℕ) (s : ℕ) → Says (seat_fits ws s) (Seat ws s)
-unfolding seat_fits seat_by
-seat_says ws s =
-    let late = latest ws in
-    let a = start_by late (oldest_of ws s (count ws)) (start ws s) in
-    let b = leb (body ws s) late in
-    let c = leb (seat_key ws s) max_seat in
-    let d = leb (cooling ws s) late in
-    says_iff
-    (says_and (a && b && c && d) (leb (racer ws s) (most_raced (at ws 61)))
-    (says_and (a && b && c) d (says_and (a && b) c (says_and a b (start_says late (oldest_of ws s (count ws)) (start ws s)) (says_le (body ws s) late))
-    (says_le (seat_key ws s) max_seat)) (says_le (cooling ws s) late)) (says_le (racer ws s) (most_raced (at ws 61))))
-    (λ p. record { starts = p.0.0.0.0; bodies = p.0.0.0.1; keys = p.0.0.1; cools = p.0.1; races = p.1 })
-    (λ r. ((((r.starts, r.bodies), r.keys), r.cools), r.races))

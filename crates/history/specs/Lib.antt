@@ -2,12 +2,4 @@ pub mod Run
 pub mod Book
 pub mod Reports
 pub mod Order
-pub mod Ordered
-pub mod Lines
-pub mod Moves
-pub mod Steps
-pub mod Answers
-pub mod Perms
-pub mod Places
 pub mod Claim
-pub mod Examples

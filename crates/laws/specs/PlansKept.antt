@@ -1,8 +1,6 @@
--- What planning leaves of a window and lets go: the window as it was, or its sweep, which may be rewound; and that keeps it sound. Assumes nothing.
-use Rattle.std.specs.Prelude.{refl, Bool, true, false, cond, ◌&&◌, ◌||◌, List, ℕ, drop, leb}
-use Rattle.std.proofs.Common.{inl, inr, arith, ltb-true}
+-- What planning leaves of a window and lets go: the window as it was, or its sweep, which may be rewound. Assumes nothing.
+use Rattle.std.specs.Prelude.{Bool, true, false, cond, ◌&&◌, ◌||◌, List, ℕ, leb}
 use Rattle.std.proofs.Math.Dec.{ltb}
-use Rattle.model.specs.Hash.{hashes_in}
 use Rattle.model.specs.Window.{Window, Step, stay, after}
 use Rattle.model.specs.Time.{peer_has_expired_pending}
 use Rattle.model.specs.Cooling.{peer_in_staller_cooldown}
@@ -10,12 +8,8 @@ use Rattle.model.specs.Capacity.{Capacity, no_capacity, capacity, compute_reques
 use Rattle.model.specs.LettingGo.{expire_pending}
 use Rattle.model.specs.Races.{is_empty}
 use Rattle.model.specs.Calls.{Ask}
-use Rattle.model.specs.Planning.{Lent, Draft, Scan, Proposal, no_request, non_empty_request, expired_request_entries, swept_asks, held_back, is_first_open, maybe_rewind_request_frontier, is_clean, clean_contiguous_peer_request, extend_request_by_reverse_scan, scan_of, request_from, request_by, request_after, next_peer_request_allowing_retry, next_peer_request}
+use Rattle.model.specs.Planning.{Lent, Draft, Scan, Proposal, no_request, non_empty_request, expired_request_entries, swept_asks, held_back, maybe_rewind_request_frontier, is_clean, clean_contiguous_peer_request, extend_request_by_reverse_scan, scan_of, request_from, request_by, request_after, next_peer_request_allowing_retry, next_peer_request}
 use Rattle.model.specs.declared.Height.TheVariants.{Unknown}
-use Rattle.laws.specs.Numbers.{both, and_left}
-use Rattle.laws.specs.Sound.{Sound}
-use Rattle.laws.specs.Parts.{sound_frontier}
-use Rattle.laws.specs.Lets.{Lets, Steady, lets_stay, lets_after, expire_lets}
 
 -- a proposal without its request
 abbrev pub step_of : Proposal → Step
@@ -69,27 +63,3 @@ module _ (P : Step → Type 0) where
       plans_keeps =
           either (peer_has_expired_pending source now w || peer_in_staller_cooldown source now w) (no_request (stay w)) (next_peer_request_allowing_retry source l now w)
           stays plans_retry_keeps
-
--- rewound is only what starts below the frontier
-rewind_steady : {c : ℕ} (l : Lent) (w : Window) → Sound c w → Steady c w (maybe_rewind_request_frontier l w)
-unfolding maybe_rewind_request_frontier
-rewind_steady l w g =
-    let below = ltb l.start w.frontier in
-    let is_open = is_first_open l w (drop l.start (hashes_in l.chain)) in
-    elim (both (below && is_open)) [
-      | inl q ↦ rw q (record { sound = sound_frontier g l.start (omega (arith, ltb-true l.start w.frontier (and_left below is_open q), g.frontier)); same = refl })
-      | inr q ↦ rw q (record { sound = g; same = refl })
-    ]
-
-module _ {c : ℕ} {w : Window} (source : ℕ) (l : Lent) (g : Sound c w) where
-  rewind_lets : (s : Step) → Lets c w s → Lets c w (after s (maybe_rewind_request_frontier l))
-  rewind_lets s h = lets_after (maybe_rewind_request_frontier l) h (rewind_steady l)
-
-  stay_lets : Lets c w (stay w)
-  stay_lets = lets_stay (record { sound = g; same = refl })
-
-  pub plans_retry_lets : Lets c w (step_of (next_peer_request_allowing_retry source l c w))
-  plans_retry_lets = plans_retry_keeps (Lets c w) l rewind_lets source c w stay_lets (expire_lets g)
-
-  pub plans_lets : Lets c w (step_of (next_peer_request source l c w))
-  plans_lets = plans_keeps (Lets c w) l rewind_lets source c w stay_lets (expire_lets g)

@@ -1,5 +1,5 @@
--- A request and an owned fetch keep a window sound. Assumes nothing.
-use Rattle.std.specs.Prelude.{◌≡◌, Bool, true, false, cond, not, ◌&&◌, ◌||◌, ℕ, zero, suc, ◌+◌, ◌≤◌, ◌<◌, get_or, eqb, leb}
+-- What a request puts into a queue keeps it sound, and what an owned fetch that asks has made sure of. Assumes nothing.
+use Rattle.std.specs.Prelude.{◌≡◌, Bool, true, false, cond, not, ◌||◌, ℕ, zero, suc, ◌+◌, ◌≤◌, ◌<◌, get_or, eqb, leb}
 use Rattle.std.proofs.Math.Path.{refl, ap}
 use Rattle.std.proofs.Common.{sym, ◌∙◌, true≢false, get_or-set_same, get_or-set_other}
 use Rattle.std.proofs.Math.Logic.{inl, inr}
@@ -8,26 +8,24 @@ use mathlib.Core.List.{List, [], ◌∷◌}
 use native.Mathlib.Omega.{arith}
 use Rattle.std.proofs.Math.ListN.{length, length-set}
 use borrow.Author.Tests.{eqb-true, eqb-false, ltb-true, not-true, eq-eqb, ne_eqb}
-use Rattle.model.specs.Numbers.{greater, max_height, min_estimate, max_estimate, max_seat, max_pending}
+use Rattle.model.specs.Numbers.{max_height, min_estimate, max_estimate, max_seat, max_pending}
 use Rattle.model.specs.Lists.{all, any}
 use Rattle.model.specs.Hash.{key, same}
 use Rattle.model.specs.Records.{new_entry, insert, found, is_there, sum, pending_count_for}
 use Rattle.model.specs.Seats.{oldest, start_noted}
-use Rattle.model.specs.Window.{Window, Queue, HighWater, with_attempted, with_frontier}
+use Rattle.model.specs.Window.{Window, Queue}
 use Rattle.model.specs.Capacity.{capacity_left, has_request_capacity, effective_peer_inflight}
 use Rattle.model.specs.Races.{is_empty}
-use Rattle.model.specs.Calls.{Ask, put, puts, raised, started, noted, mark_requested, Fetching, held, staged, asked, no_capacity, owned_fetch, fetched, mark_owned_fetch}
+use Rattle.model.specs.Calls.{Ask, put, puts, started, Fetching, held, staged, asked, no_capacity, owned_fetch}
 use Rattle.model.specs.Refusals.{listed_once}
 use Rattle.model.specs.declared.Hash.{Hash}
 use Rattle.model.specs.declared.Entry.{Entry}
 use Rattle.model.specs.declared.Front.{Front}
-use Rattle.model.specs.declared.Source.TheVariants.{Missing}
-use Rattle.laws.specs.Numbers.{both, and_left, and_right, second_le_greater, greater_le}
+use Rattle.laws.specs.Numbers.{both, and_left, and_right}
 use Rattle.laws.specs.Every.{hold, all_first, all_rest, blocks_le}
 use Rattle.laws.specs.Bag.{weigh, one, weigh_one, pick_weigh}
 use Rattle.laws.specs.Entries.{on, on_other, with_hash, estimate_of, sum_weigh, Rising, insert_pick, insert_rising, Finding, missing, at, found_is, Each, each_unpick, owned, early, oldest_none, oldest_first, first_oldest, with_time, oldest_pick}
-use Rattle.laws.specs.Sound.{InRange, Seat, SoundQueue, NoLower, Sound}
-use Rattle.laws.specs.Parts.{sound_frontier, sound_attempted, sound_filled}
+use Rattle.laws.specs.Sound.{InRange, Seat, SoundQueue, Sound}
 use Rattle.laws.specs.Queues.{oldest_top}
 
 -- ---- hashes that are not pending and not listed twice
@@ -169,7 +167,7 @@ module _ (owner c estimate : ℕ) where
       }
 
   -- all of it
-  filled_queue : (ks : List Ask) (q : Queue) → Low ks → Free ks q.pending → Once ks → owner ≤ max_seat → min_estimate ≤ estimate → estimate ≤ max_estimate
+  pub filled_queue : (ks : List Ask) (q : Queue) → Low ks → Free ks q.pending → Once ks → owner ≤ max_seat → min_estimate ≤ estimate → estimate ≤ max_estimate
       → length ks + length q.pending ≤ max_pending → SoundQueue c q → SoundQueue c (cond (is_empty ks) (into ks q) (started owner c (into ks q)))
   unfolding started puts
   filled_queue [] q low f o b x y n h = h
@@ -193,38 +191,6 @@ module _ (owner c estimate : ℕ) where
         ]);
         bodies = rw (puts_bodies (a ∷ ks) q) h.bodies;
       }
-
--- ---- the calls
-
-raised_lower : (h : HighWater) (q : Queue) → NoLower (raised h q) q
-unfolding raised
-raised_lower h q = record { blocks = second_le_greater h.blocks (length q.pending); bytes = second_le_greater h.bytes q.total }
-
-started_lower : (owner c : ℕ) (ks : List Ask) (h : HighWater) (q : Queue) → NoLower h q → NoLower h (cond (is_empty ks) q (started owner c q))
-unfolding started
-started_lower owner c [] h q k = k
-started_lower owner c (a ∷ ks) h q k = record { blocks = k.blocks; bytes = k.bytes }
-
-pub noted_sound : {c : ℕ} {w : Window} (ks : List Ask) (owner : ℕ) → owner ≤ max_seat → Low ks → Free ks w.queue.pending → Once ks
-    → length ks + length w.queue.pending ≤ max_pending → Sound c w → Sound c (noted ks owner c w)
-unfolding noted
-noted_sound {c} {w} ks owner o low f n b g =
-    sound_filled g _ _ (filled_queue owner c w.mean ks w.queue low f n o g.mean_least g.mean_most b g.queue)
-    (started_lower owner c ks _ _ (raised_lower w.high (puts ks owner c w.mean w.queue)))
-
-pub requested_sound : {c : ℕ} {w : Window} (ks : List Ask) (owner next : ℕ) → owner ≤ max_seat → next ≤ max_height → Low ks → Free ks w.queue.pending → Once ks
-    → length ks + length w.queue.pending ≤ max_pending → Sound c w → Sound c (mark_requested ks owner next c w)
-unfolding mark_requested
-requested_sound {c} {w} ks owner next o t low f n b g = elim (both (is_empty w.queue.pending && not (is_empty ks))) [
-  | inl q ↦ rw q (raise (with_attempted Missing w) (sound_attempted g Missing tt) f b)
-  | inr q ↦ rw q (raise w g f b)
-]
-  where
-    raise : (v : Window) → Sound c v → Free ks v.queue.pending → length ks + length v.queue.pending ≤ max_pending
-        → Sound c (with_frontier (greater (noted ks owner c v).frontier next) (noted ks owner c v))
-    raise v k f b =
-        let m = noted_sound ks owner o low f n b k in
-        sound_frontier m _ (greater_le (noted ks owner c v).frontier next max_height m.frontier t)
 
 -- what an owned fetch that asks has made sure of
 pub record Asking (h : Hash) (w : Window) : Type 0 where
@@ -259,18 +225,3 @@ asking_is {w = w} owner h is_staged bytes n g = elim (both (is_there (found h w.
     has : (a b : Bool) → not a || b ≡ false → a ≡ true
     has true b e = refl
     has false b e = absurd (true≢false e)
-
-fetched_sound : {c : ℕ} {w : Window} (f : Fetching) (owner : ℕ) (h : Hash) (height : ℕ) → owner ≤ max_seat → height ≤ max_height → AskingBy f h w → Sound c w
-    → Sound c (fetched f owner h height c w)
-fetched_sound held owner h height o t a g = g
-fetched_sound staged owner h height o t a g = g
-fetched_sound no_capacity owner h height o t a g = g
-fetched_sound {w = w} asked owner h height o t a g =
-    sound_attempted (requested_sound (record { hash = h; height = height } ∷ []) owner 0 o (omega arith) (t, tt) (a.free, tt) (tt, tt) (omega (arith, a.room)) g)
-    w.races.attempted g.races.attempted
-
-pub owned_fetch_sound : {c : ℕ} {w : Window} (owner : ℕ) (h : Hash) (height : ℕ) (is_staged : Bool) (bytes n : ℕ) → owner ≤ max_seat → height ≤ max_height → Sound c w
-    → Sound c (mark_owned_fetch owner h height is_staged bytes n c w)
-unfolding mark_owned_fetch
-owned_fetch_sound {w = w} owner h height is_staged bytes n o t g =
-    fetched_sound (owned_fetch owner h is_staged bytes n w) owner h height o t (asking_is owner h is_staged bytes n g) g

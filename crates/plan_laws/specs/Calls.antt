@@ -14,7 +14,8 @@ use Rattle.model.specs.declared.Release.{Release}
 use Rattle.laws.specs.Sound.{Sound}
 use Rattle.laws.specs.Parts.{sound_clock}
 use Rattle.laws.specs.Words.{Encodes, sound_words}
-use Rattle.laws.specs.Kept.{seat_le, changed_sound}
+use Rattle.laws.specs.Kept.{seat_le}
+use Rattle.laws.proofs.Kept.{changed_sound}
 use Rattle.refusals.specs.Outcomes.{admitted}
 use Rattle.plan_laws.specs.Plan.{Form, first, allowing_retry, plan, marking, never_pending, left_sound, marking_fits, marking_accepted, marking_frontier}
 

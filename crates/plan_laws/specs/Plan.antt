@@ -26,7 +26,7 @@ use Rattle.laws.specs.Numbers.{both, lesser_le_first, lesser_le_second}
 use Rattle.laws.specs.Every.{and_so, blocks_le}
 use Rattle.laws.specs.Entries.{Rising, Picks, each_map}
 use Rattle.laws.specs.Sound.{Sound}
-use Rattle.laws.specs.PlansKept.{plans_lets, plans_retry_lets}
+use Rattle.laws.proofs.PlansKept.{plans_lets, plans_retry_lets}
 use Rattle.laws.specs.Fits.{FitsChange}
 use Rattle.plan_laws.specs.Lists.{Every, every_map, none_any, none_all}
 use Rattle.plan_laws.specs.Named.{NamesOnce, hashes_of, times_hashes, once_listed}
@@ -93,7 +93,7 @@ module _ (form : Form) (source : ℕ) (l : Lent) (now : ℕ) (w : Window) where
 
   -- so lists of 256 places hold it
   pub within_256 : settings_ok w.settings ≡ true → length P.asks ≤ max_pending
-  within_256 e = omega (arith, within_the_blocks, blocks_le w.settings e)
+  within_256 e = omega (arith, (plan_within source l now w it).blocks, blocks_le w.settings e)
 
   -- ---- "A hash already in the plan is passed by like a pending one": no hash stands in it twice, whatever the lists name twice. The window's hashes
   -- rise strictly, as in every sound one (two records of one hash, both swept, would both be named)
@@ -172,7 +172,7 @@ module _ (form : Form) (source : ℕ) (l : Lent) (now : ℕ) (w : Window) where
     marked_at_once =
         let v = P.window in
         let free = none_all (is_pending v) P.asks (every_map (Good l v) (λ a. is_pending v a ≡ false) (λ a k. k.pending) P.asks (plan_good source l now w it)) in
-        let fits : length v.queue.pending + length P.asks ≤ max_pending = omega (arith, within_the_blocks, blocks_le w.settings g.settings, left_sound.queue.few) in
+        let fits : length v.queue.pending + length P.asks ≤ max_pending = omega (arith, (plan_within source l now w it).blocks, blocks_le w.settings g.settings, left_sound.queue.few) in
         rw (and_so free (and_so (never_listed_twice g.queue.rising) refl), le-leb (length v.queue.pending + length P.asks) max_pending fits)
 
   pub next_is_the_frontier : is_empty P.asks ≡ false → (mark_requested P.asks source P.next now P.window).frontier ≡ P.next

@@ -18,7 +18,7 @@ use Rattle.laws.specs.Numbers.{lesser_le_first, lesser_le_second}
 use Rattle.laws.specs.Every.{blocks_le}
 use Rattle.laws.specs.Sound.{Sound}
 use Rattle.laws.specs.Whole.{Whole, Holds, holds_whole}
-use Rattle.laws.specs.Lets.{expire_lets}
+use Rattle.laws.proofs.Lets.{expire_lets}
 use Rattle.report_words.specs.Report.{releases_of}
 use Rattle.batch.specs.Resets.{Went}
 use Rattle.swept_order.specs.Keys.{low_height, swept_heights}

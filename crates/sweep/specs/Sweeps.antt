@@ -15,7 +15,8 @@ use Rattle.model.specs.declared.Observation.{Observation}
 use Rattle.laws.specs.Numbers.{both}
 use Rattle.laws.specs.Every.{hold}
 use Rattle.laws.specs.Sound.{Sound}
-use Rattle.laws.specs.Batches.{batch, retire_reason, retire_is}
+use Rattle.laws.specs.Batches.{batch, retire_reason}
+use Rattle.laws.proofs.Batches.{retire_is}
 use Rattle.laws.specs.Marks.{extract_by, extract_marked}
 use Rattle.laws.specs.Pending.{pending_few}
 use Rattle.laws.specs.Whole.{Whole, Holds, words_shaped}

@@ -3,7 +3,7 @@ use Rattle.std.proofs.Common.{◌≡◌, true, ◌&&◌, length, sym, ◌∙◌,
 use Rattle.facts.specs.Words.{head_fits, unused_zero, records_fit, total_fits, seats_fit, conditions, fits}
 use Rattle.facts.specs.Flags.{fold}
 use Rattle.facts.specs.Head.{head_count, head_clock}
-use Rattle.facts.specs.Whole.{fits_is}
+use Rattle.facts.proofs.Whole.{fits_is}
 use Rattle.check_window.proofs.is_window.Goals.{Else-not-head, Else-not-unused}
 use Rattle.check_window.proofs.is_window.Goals as goal
 

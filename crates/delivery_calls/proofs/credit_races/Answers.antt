@@ -4,7 +4,7 @@ use Rattle.model.specs.Layout.{window_of}
 use Rattle.model.specs.Window.{Step}
 use Rattle.laws.specs.Sound.{Sound}
 use Rattle.laws.specs.Whole.{Holds}
-use Rattle.laws.specs.RacesKept.{resolve_lets}
+use Rattle.laws.proofs.RacesKept.{resolve_lets}
 use Rattle.delivery_calls.specs.Credits.{hedge_let_go, hedge_let_none}
 use borrow.Author.Rules.{rules}
 use Rattle.delivery_calls.proofs.credit_races.Goals as goal

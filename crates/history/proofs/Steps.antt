@@ -11,13 +11,14 @@ use Rattle.model.specs.declared.Settings.{Settings}
 use Rattle.laws.specs.Bag.{weigh}
 use Rattle.laws.specs.Sound.{Sound}
 use Rattle.laws.specs.Fits.{Fits, FitsChange}
-use Rattle.laws.specs.Kept.{accepted_is, sound_then, changed_sound, opens_sound}
+use Rattle.laws.specs.Kept.{accepted_is, sound_then, opens_sound}
+use Rattle.laws.proofs.Kept.{changed_sound}
 use Rattle.laws.specs.Words.{sound_words}
 use Rattle.history.specs.Run.{Act, Done, Run, run_step, run, on_words, AllFit}
 use Rattle.history.specs.Book.{Line, Mark, pending_lines, marks, opens_entries, writes, own_by, Book, own_refusal, book_step, book, new_book}
 use Rattle.history.specs.Reports.{Told, anew, counts, tells_by, tells, AsLent}
-use Rattle.history.specs.Lines.{Agree, told, agree_outs, agree_adds}
-use Rattle.history.specs.Moves.{change_moves, gone_room}
+use Rattle.history.proofs.Lines.{Agree, told, agree_outs, agree_adds}
+use Rattle.history.proofs.Moves.{change_moves, gone_room}
 
 -- ---- the log: each counted place since the last accepted opening, as a mark would name it
 

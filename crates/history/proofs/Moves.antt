@@ -15,13 +15,16 @@ use Rattle.laws.specs.Every.{hold}
 use Rattle.laws.specs.Bag.{weigh, one, weigh_one, pick_weigh}
 use Rattle.laws.specs.Entries.{Rising, insert_pick, Picks, done, picks_weigh}
 use Rattle.laws.specs.Sound.{Sound}
-use Rattle.laws.specs.Lets.{Lets, Steady, requeue_lets, release_lets, retire_lets, expire_lets, retain_owned_lets}
+use Rattle.laws.specs.Lets.{Lets, Steady}
+use Rattle.laws.proofs.Lets.{requeue_lets, release_lets, retire_lets, expire_lets, retain_owned_lets}
 use Rattle.laws.specs.RacesKept.{unresponsive_steady, confirm_steady, hedge_steady}
-use Rattle.laws.specs.CallsKept.{duplicate_steady, credit_lets, received_lets, reject_lets, fanout_steady, preferred_steady}
-use Rattle.laws.specs.PlansKept.{plans_lets, plans_retry_lets}
+use Rattle.laws.specs.CallsKept.{duplicate_steady, fanout_steady, preferred_steady}
+use Rattle.laws.proofs.CallsKept.{credit_lets, received_lets, reject_lets}
+use Rattle.laws.proofs.PlansKept.{plans_lets, plans_retry_lets}
 use Rattle.laws.specs.Fits.{FitsChange}
 use Rattle.laws.specs.LooksKept.{observe_steady}
-use Rattle.laws.specs.Kept.{Accepted, body_le, seat_le, change_sound}
+use Rattle.laws.specs.Kept.{Accepted, body_le, seat_le}
+use Rattle.laws.proofs.Kept.{change_sound}
 use Rattle.history.specs.Book.{entries_of, fetch_opens, opens_entries}
 
 -- from the entries l to n: es come in, and gs are picked out

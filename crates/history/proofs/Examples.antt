@@ -27,7 +27,8 @@ use Rattle.model.specs.declared.Settings.{Settings}
 use Rattle.model.specs.declared.Source.TheVariants.{From}
 use Rattle.history.specs.Run.{Act, Done, Run, run, on_words}
 use Rattle.history.specs.Reports.{left_by, Answered}
-use Rattle.history.specs.Claim.{Claim, the_book_adds_up}
+use Rattle.history.specs.Claim.{Claim}
+use Rattle.history.proofs.Claim.{the_book_adds_up}
 use Rattle.history.specs.Book.{Book, opened_lines, pending_lines, gone_lines, marks, mark, mark_all, add_lines, entries_of, book_step, book, new_book}
 
 written : List Act → Book → Book

@@ -23,7 +23,8 @@ use Rattle.facts.specs.Head.{word_at, part, counts_count}
 use Rattle.facts.specs.Lists.{says_part, says_first, says_rest, blank_is}
 use Rattle.facts.specs.Sound.{Sound, valid_says}
 use Rattle.facts.specs.Entries.{fields_are, rises_are, sum_is, oldest_is}
-use Rattle.facts.specs.Seats.{start_is, says_starts, raced_le, raced_none, raced_in, Seat, seat_says, start_says}
+use Rattle.facts.specs.Seats.{start_is, says_starts, raced_le, raced_none, raced_in, Seat, start_says}
+use Rattle.facts.proofs.Seats.{seat_says}
 
 module _ (ws : List ℕ) (long : length ws ≡ 4096) where
   abbrev t : Table

@@ -13,9 +13,9 @@ use Rattle.laws.specs.Bag.{weigh, weigh_append, Same, Pick, here, there}
 use Rattle.history.specs.Run.{Done}
 use Rattle.history.specs.Book.{Mark}
 use Rattle.history.specs.Reports.{Told, anew, counts, tells, places_by, places_at}
-use Rattle.history.specs.Lines.{naming, told}
-use Rattle.history.specs.Steps.{logs, log_of}
-use Rattle.history.specs.Perms.{hits, hits_self, find, mark_discrete}
+use Rattle.history.proofs.Lines.{naming, told}
+use Rattle.history.proofs.Steps.{logs, log_of}
+use Rattle.history.proofs.Perms.{hits, hits_self, find, mark_discrete}
 
 -- 1 where a mark names the place k of the call i
 unfoldable pub names_place : ℕ → ℕ → Mark → ℕ

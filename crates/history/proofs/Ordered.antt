@@ -31,8 +31,9 @@ use Rattle.model.specs.declared.Probe.TheVariants.{NoProbe, Probing}
 use Rattle.laws.specs.Numbers.{both}
 use Rattle.laws.specs.Entries.{Rising, rising_weaken}
 use Rattle.laws.specs.Sound.{Sound}
-use Rattle.laws.specs.Batches.{retire_reason, retire_is}
-use Rattle.laws.specs.Lets.{remove_lets}
+use Rattle.laws.specs.Batches.{retire_reason}
+use Rattle.laws.proofs.Batches.{retire_is}
+use Rattle.laws.proofs.Lets.{remove_lets}
 use Rattle.laws.specs.PlansKept.{plans_keeps, plans_retry_keeps}
 use Rattle.laws.specs.Kept.{passed, accepted_is, sound_then}
 use Rattle.laws.specs.Words.{words_sound}

@@ -1,0 +1,9 @@
+pub mod Ordered
+pub mod Lines
+pub mod Moves
+pub mod Steps
+pub mod Answers
+pub mod Perms
+pub mod Places
+pub mod Claim
+pub mod Examples
