@@ -1,6 +1,6 @@
 // Windows broken one word at a time: every word of the 4,096, many values each. The proved check and an independent reader must agree on every case. From
 // the repository:
-// rt staticlib check_export && rustc --edition 2021 -C opt-level=3 damage/main.rs -L target/staticlib -l static=check_export -o target/damage && target/damage
+// tools/archive check_export && rustc --edition 2021 -C opt-level=3 damage/main.rs -L target/staticlib -l static=check_export -o target/damage && target/damage
 mod reader;
 mod windows;
 

@@ -1,5 +1,5 @@
 // The proved check beside the same check in Rust, in one run: ns and the ratio. From the repository:
-// rt staticlib check_export && rustc --edition 2021 -C opt-level=3 bench/check/main.rs -L target/staticlib -l static=check_export -o target/bench_check && target/bench_check
+// tools/archive check_export && rustc --edition 2021 -C opt-level=3 bench/check/main.rs -L target/staticlib -l static=check_export -o target/bench_check && target/bench_check
 #[path = "../../damage/windows.rs"]
 mod windows;
 mod twin;
