@@ -46,3 +46,9 @@ build() {
 oracle() {
     ORACLE_TARGET=$target ORACLE_HERE=$here "$target/release/oracle" "$@"
 }
+
+# closed FOLDER: whether the closed checks of the crate in FOLDER/closed hold of the definitions, which are built beside it; what rattle says goes to FOLDER/log.
+closed() {
+    "$here/rattle" build model "$root/crates/model" -o "$1/model.rlib" > "$1/log" 2>&1 &&
+        "$here/rattle" check closed "$1/closed" --extern model="$1/model.rlib" > "$1/log" 2>&1
+}

@@ -67,14 +67,14 @@ impl Checks {
         let name = format!("words-{}", words.len());
         self.list(&name, words.iter().copied());
         let arguments = format!("({})", spell::list(lengths));
-        self.theorem(&format!("written-{}", words.len()), &name, "writes-getdata", &arguments, expected);
+        self.theorem(&format!("written-{}", words.len()), &name, "writes_getdata", &arguments, expected);
     }
 
     /// The payload into lists of so many words.
     fn reads(&mut self, name: &str, list: &str, bytes: &[u8], rooms: Vec<usize>) {
         let rooms: BTreeSet<usize> = rooms.into_iter().collect();
         let expected = rooms.iter().map(|room| read_digest(bytes, *room)).collect();
-        self.theorem(name, list, "reads-getdata", &format!("({})", spell::list(rooms)), expected);
+        self.theorem(name, list, "reads_getdata", &format!("({})", spell::list(rooms)), expected);
     }
 
     /// The payload with single bytes changed.
@@ -82,7 +82,7 @@ impl Checks {
         let expected = changes.iter().map(|change| read_digest(&with(bytes, change), room)).collect();
         let numbers = |change: &Change| spell::list(change.iter().flat_map(|(place, byte)| [*place, (*byte).into()]));
         let spelled = spell::list(changes.iter().map(|change| format!("({})", numbers(change))));
-        self.theorem(name, list, "reads-changed", &format!("{room} ({spelled})"), expected);
+        self.theorem(name, list, "reads_changed", &format!("{room} ({spelled})"), expected);
     }
 }
 
@@ -214,6 +214,6 @@ fn cut(checks: &mut Checks) {
         let lengths: BTreeSet<usize> = if count < LARGE { (0..=bytes.len()).collect() } else { near.collect() };
         let expected = lengths.iter().map(|length| read_digest(&bytes[..*length], 4 * count)).collect();
         let arguments = format!("{} ({})", 4 * count, spell::list(&lengths));
-        checks.theorem(&format!("cut-{count}"), &name, "reads-cut", &arguments, expected);
+        checks.theorem(&format!("cut-{count}"), &name, "reads_cut", &arguments, expected);
     }
 }

@@ -75,14 +75,14 @@ fn change(call: &Call) -> Option<String> {
         Call::CreditDeliveryFrom { clock, hash: h, source, pending_height } => {
             format!("credits {clock} {} {source} {}", hash(h), height(*pending_height))
         }
-        Call::CreditDuplicateDelivery { hash: h, source } => format!("credits-duplicate {} {source}", hash(h)),
+        Call::CreditDuplicateDelivery { hash: h, source } => format!("credits_duplicate {} {source}", hash(h)),
         Call::RejectDelivery { clock, hash: h, source: from } => format!("rejects {clock} {} {}", hash(h), source(*from)),
         Call::ExpirePending { clock } => format!("expires {clock}"),
         Call::RequeueForRetry { clock, hash: h, height: named } => format!("requeues {clock} {} {}", hash(h), height(*named)),
         Call::ReleasePending { clock, hash: h } => format!("releases {clock} {}", hash(h)),
         Call::RetireBefore { clock, height } => format!("retires {clock} {height}"),
         Call::RetainOwnedBy { flags } => format!("retains ({})", list(flags)),
-        Call::MarkPeerUnresponsive { clock, source } => format!("marks-unresponsive {clock} {source}"),
+        Call::MarkPeerUnresponsive { clock, source } => format!("marks_unresponsive {clock} {source}"),
         _ => return race_or_look(call),
     })
 }
@@ -90,9 +90,9 @@ fn change(call: &Call) -> Option<String> {
 fn race_or_look(call: &Call) -> Option<String> {
     Some(match call {
         Call::ConfirmPrefixProbe { clock, owner, hashes, alternates } => {
-            format!("confirms-probe {clock} {owner} ({}) ({})", list(hashes), list(alternates))
+            format!("confirms_probe {clock} {owner} ({}) ({})", list(hashes), list(alternates))
         }
-        Call::ConfirmColdFrontHedge { owner, alternate, hash: h } => format!("confirms-hedge {owner} {alternate} {}", hash(h)),
+        Call::ConfirmColdFrontHedge { owner, alternate, hash: h } => format!("confirms_hedge {owner} {alternate} {}", hash(h)),
         Call::ObserveBlocked { clock, next_apply_height, frontier_hash, busy, staged_count, staged_height } => {
             let frontier = frontier_hash.as_ref().map_or("NoHash".to_string(), |h| format!("(Exactly {})", hash(h)));
             format!(
@@ -101,11 +101,11 @@ fn race_or_look(call: &Call) -> Option<String> {
                 height(*staged_height)
             )
         }
-        Call::SetFanoutEligiblePeers { clock, count } => format!("sets-fanout {clock} {count}"),
-        Call::ClearPreferredPeer => "clears-preferred".to_string(),
+        Call::SetFanoutEligiblePeers { clock, count } => format!("sets_fanout {clock} {count}"),
+        Call::ClearPreferredPeer => "clears_preferred".to_string(),
         Call::NextPeerRequest { clock, source, lent, room } => format!("plans {clock} {source} {}", lending(lent, *room)),
         Call::NextPeerRequestAllowingRetry { clock, source, lent, room } => {
-            format!("plans-retry {clock} {source} {}", lending(lent, *room))
+            format!("plans_retry {clock} {source} {}", lending(lent, *room))
         }
         _ => return None,
     })
@@ -122,16 +122,16 @@ fn lending(lent: &Lent, room: Room) -> String {
 fn query(call: &Call) -> String {
     match call {
         Call::ComputeRequestCapacity { source, byte_headroom, count_headroom } => {
-            format!("asks-compute-capacity {source} {byte_headroom} {count_headroom}")
+            format!("asks_compute_capacity {source} {byte_headroom} {count_headroom}")
         }
-        Call::ExpiredPendingCapacity { clock } => format!("asks-expired-capacity {clock}"),
-        Call::PeerHasExpiredPending { source, clock } => format!("asks-has-expired {source} {clock}"),
-        Call::PeerInStallerCooldown { source, clock } => format!("asks-cooldown {source} {clock}"),
-        Call::ProbeOffered { source, hash: h } => format!("asks-probe-offered {source} {}", hash(h)),
-        Call::HedgeOffered { source, hash: h } => format!("asks-hedge-offered {source} {}", hash(h)),
-        Call::IsDownloading { owner } => format!("asks-downloading {owner}"),
-        Call::PendingCountFor { source } => format!("asks-count-for {source}"),
-        Call::OwnerQueueStart { owner } => format!("asks-queue-start {owner}"),
+        Call::ExpiredPendingCapacity { clock } => format!("asks_expired_capacity {clock}"),
+        Call::PeerHasExpiredPending { source, clock } => format!("asks_has_expired {source} {clock}"),
+        Call::PeerInStallerCooldown { source, clock } => format!("asks_cooldown {source} {clock}"),
+        Call::ProbeOffered { source, hash: h } => format!("asks_probe_offered {source} {}", hash(h)),
+        Call::HedgeOffered { source, hash: h } => format!("asks_hedge_offered {source} {}", hash(h)),
+        Call::IsDownloading { owner } => format!("asks_downloading {owner}"),
+        Call::PendingCountFor { source } => format!("asks_count_for {source}"),
+        Call::OwnerQueueStart { owner } => format!("asks_queue_start {owner}"),
         Call::Query(query) => plain_query(query),
         other => panic!("{other:?} is no query"),
     }
@@ -140,34 +140,34 @@ fn query(call: &Call) -> String {
 fn plain_query(query: &Reading) -> String {
     match query {
         Reading::HasRequestCapacity { byte_headroom, count_headroom } => {
-            format!("asks-request-capacity {byte_headroom} {count_headroom}")
+            format!("asks_request_capacity {byte_headroom} {count_headroom}")
         }
-        Reading::ContainsPending { hash: h } => format!("asks-contains {}", hash(h)),
-        Reading::PendingOwner { hash: h } => format!("asks-owner {}", hash(h)),
+        Reading::ContainsPending { hash: h } => format!("asks_contains {}", hash(h)),
+        Reading::PendingOwner { hash: h } => format!("asks_owner {}", hash(h)),
         _ => format!("reads {}", reading(query)),
     }
 }
 
 fn reading(query: &Reading) -> &'static str {
     match query {
-        Reading::FanoutActive => "fanout-active",
-        Reading::PendingLen => "pending-len",
-        Reading::PendingBytes => "pending-bytes",
-        Reading::PendingHighWater => "pending-high-water",
-        Reading::MaxPendingBlocks => "max-pending-blocks",
-        Reading::MinPeersForFanout => "min-peers-for-fanout",
-        Reading::EffectivePeerInflight => "peer-inflight",
-        Reading::StallingPeer => "stalling-peer",
-        Reading::PreferredPeer => "preferred-peer",
-        Reading::PrefixProbePlan => "probe-plan",
-        Reading::ActiveDownloadingPeers => "active-peers",
-        Reading::EffectiveOwnerTimeout => "owner-timeout",
-        Reading::StallDecayFloor => "decay-floor",
-        Reading::RequestCursor => "request-cursor",
-        Reading::StallTimeout => "stall-timeout",
-        Reading::FrontIntervalEwmaMs => "front-interval-ewma-ms",
-        Reading::EwmaBlockBytes => "ewma-block-bytes",
-        Reading::ProbeStartedAt => "probe-start",
+        Reading::FanoutActive => "fanout_active",
+        Reading::PendingLen => "pending_len",
+        Reading::PendingBytes => "pending_bytes",
+        Reading::PendingHighWater => "pending_high_water",
+        Reading::MaxPendingBlocks => "max_pending_blocks",
+        Reading::MinPeersForFanout => "min_peers_for_fanout",
+        Reading::EffectivePeerInflight => "peer_inflight",
+        Reading::StallingPeer => "stalling_peer",
+        Reading::PreferredPeer => "preferred_peer",
+        Reading::PrefixProbePlan => "probe_plan",
+        Reading::ActiveDownloadingPeers => "active_peers",
+        Reading::EffectiveOwnerTimeout => "owner_timeout",
+        Reading::StallDecayFloor => "decay_floor",
+        Reading::RequestCursor => "request_cursor",
+        Reading::StallTimeout => "stall_timeout",
+        Reading::FrontIntervalEwmaMs => "front_interval_ewma_ms",
+        Reading::EwmaBlockBytes => "ewma_block_bytes",
+        Reading::ProbeStartedAt => "probe_start",
         other => panic!("{other:?} is no query"),
     }
 }

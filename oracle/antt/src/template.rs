@@ -35,7 +35,7 @@ pub fn run(model: &Path) -> io::Result<String> {
         let names = unfoldable(&fs::read_to_string(model.join(format!("{module}.antt")))?);
         let more = EXTRA.iter().filter(|(of, _)| *of == module).map(|(_, name)| (*name).to_string());
         let all: Vec<String> = names.iter().cloned().chain(more).collect();
-        imports += &format!("use Rattle·model.specs.{module}.{{{}}}\n", all.join(", "));
+        imports += &format!("use Rattle.model.specs.{module}.{{{}}}\n", all.join(", "));
         opened.extend(names);
     }
     let opened = opened.join(" ");
@@ -46,50 +46,50 @@ pub fn run(model: &Path) -> io::Result<String> {
 /// The tests: what is said of them, name, arguments with their types, and what must equal the last argument.
 const TESTS: [(&str, &str, &[(&str, &str)], &str); 10] = [
     ("whether a run from an opening on gives these numbers", "runs", &[("cs", "List Call")], "digests cs nowhere"),
-    ("whether its last call, by words, gives these", "ends", &[("cs", "List Call"), ("c", "Call")], "last-by-words cs c"),
+    ("whether its last call, by words, gives these", "ends", &[("cs", "List Call"), ("c", "Call")], "last_by_words cs c"),
     (
         "whether calls on the window that a run leaves, with reports of these lengths, are refused by these numbers",
         "refuses",
         &[("cs", "List Call"), ("rooms", "List ℕ"), ("xs", "List Call")],
-        "refusals-in (end-of cs nowhere) rooms xs",
+        "refusals_in (end_of cs nowhere) rooms xs",
     ),
     (
         "the same on its words, n of them, some of them changed",
-        "refuses-words",
+        "refuses_words",
         &[("cs", "List Call"), ("n", "ℕ"), ("l", "List ℕ"), ("rooms", "List ℕ"), ("xs", "List Call")],
-        "refusals-by-words (cut n l (encode (end-of cs nowhere))) rooms xs",
+        "refusals_by_words (cut n l (encode (end_of cs nowhere))) rooms xs",
     ),
     (
         "whether its table, changed in these ways, counts as a window",
-        "counts-as",
+        "counts_as",
         &[("cs", "List Call"), ("ls", "List (List ℕ)")],
-        "verdicts (table (end-of cs nowhere)) ls",
+        "verdicts (table (end_of cs nowhere)) ls",
     ),
     (
         "whether a call on its words, n of them, some of them changed, and on so many report places, answers and leaves these",
         "leaves",
         &[("cs", "List Call"), ("n", "ℕ"), ("l", "List ℕ"), ("room", "ℕ"), ("x", "Call")],
-        "outcome-digests (perform x (cut n l (encode (end-of cs nowhere))) (replicate room lent))",
+        "outcome_digests (perform x (cut n l (encode (end_of cs nowhere))) (replicate room lent))",
     ),
     (
         "whether a list of words, written as getdata into outputs of these lengths, answers and leaves these",
-        "writes-getdata",
+        "writes_getdata",
         &[("ws", "List ℕ"), ("lengths", "List ℕ")],
-        "written-getdata ws lengths",
+        "written_getdata ws lengths",
     ),
     (
         "whether a payload, read into lists of so many words, answers and leaves these",
-        "reads-getdata",
+        "reads_getdata",
         &[("p", "List ℕ"), ("rooms", "List ℕ")],
-        "read-into p rooms",
+        "read_into p rooms",
     ),
     (
         "the same, changed in several ways",
-        "reads-changed",
+        "reads_changed",
         &[("p", "List ℕ"), ("n", "ℕ"), ("ls", "List (List ℕ)")],
-        "read-changed p n ls",
+        "read_changed p n ls",
     ),
-    ("the same, cut to several lengths", "reads-cut", &[("p", "List ℕ"), ("n", "ℕ"), ("ks", "List ℕ")], "read-cut p n ks"),
+    ("the same, cut to several lengths", "reads_cut", &[("p", "List ℕ"), ("n", "ℕ"), ("ks", "List ℕ")], "read_cut p n ks"),
 ];
 
 fn test(about: &str, name: &str, arguments: &[(&str, &str)], is: &str, opened: &str) -> String {
@@ -105,32 +105,32 @@ const OWN: [&str; 29] = [
     "equal",
     "digest",
     "filled",
-    "entry-words",
-    "entries-words",
-    "gone-words",
-    "state-words",
-    "deed-words",
+    "entry_words",
+    "entries_words",
+    "gone_words",
+    "state_words",
+    "deed_words",
     "digests",
-    "end-of",
-    "plan-words",
-    "outcome-digests",
-    "last-by-words",
-    "refusals-in",
-    "changed-at",
+    "end_of",
+    "plan_words",
+    "outcome_digests",
+    "last_by_words",
+    "refusals_in",
+    "changed_at",
     "cut",
-    "refusals-by-words",
-    "entry-changed",
-    "table-changed",
-    "table-with",
+    "refusals_by_words",
+    "entry_changed",
+    "table_changed",
+    "table_with",
     "verdicts",
     "pattern",
-    "written-words",
-    "written-getdata",
-    "read-words",
-    "read-into",
-    "read-changed",
-    "read-cut",
-    "ones onesIn",
+    "written_words",
+    "written_getdata",
+    "read_words",
+    "read_into",
+    "read_changed",
+    "read_cut",
+    "ones ones_in",
 ];
 
 /// Names that `Run.antt` uses beside the definitions it opens.
@@ -144,7 +144,7 @@ const EXTRA: [(&str, &str); 19] = [
     ("Refusals", "changes"),
     ("Refusals", "queries"),
     ("Refusals", "checks"),
-    ("Refusals", "query-checks"),
+    ("Refusals", "query_checks"),
     ("Refusals", "refusal"),
     ("Perform", "Deed"),
     ("Perform", "does"),

@@ -165,7 +165,7 @@ fn refuses_words(name: &str, lent: &Lent, tries: &[Try], counts: &mut Counts) ->
     let words = lent.words();
     let expected: Vec<u8> = tries.iter().map(|tried| counts.of(tried, &words)).collect();
     let arguments = [lent.spelled(), places(tries), spell::list(tries.iter().map(|tried| spell::call(&tried.call)))].join(") (");
-    theorem(name, "refuses-words", &arguments, &spell::list(expected))
+    theorem(name, "refuses_words", &arguments, &spell::list(expected))
 }
 
 impl Lent<'_> {
@@ -215,7 +215,7 @@ fn verdicts(window: &Window) -> (String, usize) {
         let spelled = changes.iter().map(|change| format!("({})", spell::list(change.words.iter().flat_map(place_and_value))));
         let arguments = [spell::list(spell::calls(&window.calls)), spell::list(spelled)].join(") (");
         let expected = spell::list(changes.iter().map(|change| u8::from(change.counts)));
-        theorem(&format!("{}-part-{part}", window.name), "counts-as", &arguments, &expected)
+        theorem(&format!("{}-part-{part}", window.name), "counts_as", &arguments, &expected)
     };
     (by_part.into_iter().map(check).collect(), count)
 }

@@ -1,5 +1,5 @@
 //! One-line mistakes put into a copy of the definitions, one at a time: does a closed check catch each?
-//! mistakes MODEL LIST WORK TEXT FROM: MODEL is the crate folder, LIST the list of mistakes, WORK has the crate folders `sequences` and `refusals`
+//! mistakes RATTLE MODEL LIST WORK TEXT FROM: RATTLE is oracle/rattle, MODEL the crate folder, LIST the list of mistakes, WORK has the crate folders `sequences` and `refusals`
 //! of closed checks, and mistakes whose line contains TEXT are tried, from the one with the number FROM on.
 
 use std::cmp::Reverse;
@@ -37,6 +37,7 @@ enum Verdict {
 const OF_REFUSALS: [&str; 4] = ["Refusals", "Layout", "Numbers", "Perform"];
 
 struct Work {
+    rattle: PathBuf,
     model: PathBuf,
     folder: PathBuf,
     /// `Run.antt`, which every check uses.
@@ -48,13 +49,13 @@ struct Work {
 
 fn main() -> io::Result<ExitCode> {
     let arguments: Vec<String> = env::args().skip(1).collect();
-    let [model, list, folder, only, from] = &arguments[..] else {
-        eprintln!("wanted: MODEL LIST WORK TEXT FROM");
+    let [rattle, model, list, folder, only, from] = &arguments[..] else {
+        eprintln!("wanted: RATTLE MODEL LIST WORK TEXT FROM");
         return Ok(ExitCode::from(2));
     };
     let list = fs::read_to_string(list)?;
     let mistakes: Vec<Mistake> = list.lines().filter(|line| !line.starts_with('#') && line.contains(only)).map(parse).collect();
-    let mut work = Work::new(Path::new(model), Path::new(folder))?;
+    let mut work = Work::new(Path::new(rattle), Path::new(model), Path::new(folder))?;
     let begin = Instant::now();
     let mut caught = 0;
     let from: usize = from.parse().unwrap_or(1);
@@ -90,10 +91,11 @@ fn line(number: usize, mistake: &Mistake, verdict: &Verdict) -> String {
 }
 
 impl Work {
-    fn new(model: &Path, folder: &Path) -> io::Result<Self> {
+    fn new(rattle: &Path, model: &Path, folder: &Path) -> io::Result<Self> {
         let run = inside(&fs::read_to_string(folder.join("sequences/specs/Run.antt"))?);
         let checks = checks(&folder.join("sequences"))?.into_iter().chain(checks(&folder.join("refusals"))?).collect();
-        Ok(Self { model: model.to_path_buf(), folder: folder.to_path_buf(), run, checks, caught: BTreeMap::new() })
+        let [rattle, model, folder] = [rattle, model, folder].map(Path::to_path_buf);
+        Ok(Self { rattle, model, folder, run, checks, caught: BTreeMap::new() })
     }
 
     /// Runs some checks, and more of them until one fails: first those that show the hinted event, or caught most in the same file so far. Getdata's are for
@@ -162,7 +164,7 @@ impl Work {
         {
             return Ok(Some(problem));
         }
-        let output = Command::new("rt").arg("check").arg(&copy).output()?;
+        let output = Command::new(&self.rattle).args(["check", "model"]).arg(&copy).output()?;
         Ok((!output.status.success()).then(|| first_error(&output.stdout, &output.stderr)))
     }
 }
@@ -184,7 +186,7 @@ fn checks(folder: &Path) -> io::Result<Vec<Check>> {
 
 /// A module of closed checks as one of the definitions' own crate.
 fn inside(text: &str) -> String {
-    text.replace("Rattle·model.specs.", "Rattle·model·specs.specs.").replace("Rattle·closed·specs.", "Rattle·model·specs.")
+    text.replace("Rattle.closed.specs.", "Rattle.model.specs.")
 }
 
 /// Puts the new text where the old one stands, if it stands there once.
