@@ -46,13 +46,7 @@ fn name(rt: &impl Print, number: u64, kind: u64, q: Same) -> io::Result<()> {
 }
 
 // A call that differs is named, and counted.
-fn told(
-    rt: &impl Print,
-    differing: u64,
-    number: u64,
-    kind: u64,
-    q: Same,
-) -> io::Result<u64> {
+fn told(rt: &impl Print, differing: u64, number: u64, kind: u64, q: Same) -> io::Result<u64> {
     if is_same(q) {
         return Ok(differing);
     }
