@@ -9,9 +9,10 @@ use ledger::Book;
 use lines::Said;
 use played::act;
 use script::{Plan, Step};
+use std::io;
 
-fn put(s: &[u8]) {
-    io::write_all(1, s);
+fn put(rt: &impl Print, s: &[u8]) -> io::Result<()> {
+    rt.write_all(s)
 }
 
 // What is kept from call to call: the book, the last plan, and how many words of the list of staged hashes are in use.
@@ -24,23 +25,24 @@ struct Host {
 
 // ---- one line a call
 
-fn show(words: &[u64], s: Step, p: Plan, said: Said) {
+fn show(rt: &impl Print, words: &[u64], s: Step, p: Plan, said: Said) -> io::Result<()> {
     let pending = window_queries::pending_len(words);
     let bytes = window_queries::pending_bytes(words);
     let share = window_queries::pending_count_for(words, s.peer);
     let l = script::row_of(s, p, said, pending, bytes, share);
-    put(&l);
+    put(rt, &l)
 }
 
 // A line of the script: a call is made and shown, and a block that came by it is staged; any other line is written as it stands.
 fn turn(
+    rt: &impl Print,
     words: &mut [u64],
     hashes: &mut [u64],
     heights: &mut [u32],
     staged: &mut [u64],
     h: Host,
     line: &[u8],
-) -> Host {
+) -> io::Result<Host> {
     if script::is_call(line) {
         let s = script::step_of(line);
         let b = h.book;
@@ -50,33 +52,34 @@ fn turn(
         let said = d.said;
         let book = d.book;
         let plan = d.plan;
-        show(words, s, plan, said);
-        return Host {
+        show(rt, words, s, plan, said)?;
+        return Ok(Host {
             book,
             plan,
             staged: script::stage(staged, n, s, said),
-        };
+        });
     }
-    put(line);
-    h
+    put(rt, line)?;
+    Ok(h)
 }
 
 fn play(
+    rt: &impl Print,
     words: &mut [u64],
     hashes: &mut [u64],
     heights: &mut [u32],
     staged: &mut [u64],
     h: Host,
     text: &[u8],
-) -> Host {
+) -> io::Result<Host> {
     let mut host = h;
     let mut at: usize = 0;
     while at < text.len() {
         let end = script::line_end(text, at);
-        host = turn(words, hashes, heights, staged, host, &text[at..end]);
+        host = turn(rt, words, hashes, heights, staged, host, &text[at..end])?;
         at = end;
     }
-    host
+    Ok(host)
 }
 
 // The script. A call's line has after its colon which call (by its place in lines::words: 0 open, 1 mark_requested, 2 mark_owned_fetch, 3 mark_received_from,
@@ -203,17 +206,18 @@ fn script_text() -> [u8; 3150] {
 // ---- the book at the end, and whether it adds up with what the window says
 
 // A line of the book has 53 bytes and a line end.
-fn entry(k: usize, blocks: u64, bytes: u64) {
+fn entry(rt: &impl Print, k: usize, blocks: u64, bytes: u64) -> io::Result<()> {
     let l = lines::rows::entry(k, blocks, bytes);
-    put(&l[..54]);
+    put(rt, &l[..54])
 }
 
-fn page(blocks: [u64; 13], bytes: [u64; 13]) {
+fn page(rt: &impl Print, blocks: [u64; 13], bytes: [u64; 13]) -> io::Result<()> {
     let mut k: usize = 0;
     while k < 13 {
-        entry(k, blocks[k], bytes[k]);
+        entry(rt, k, blocks[k], bytes[k])?;
         k += 1;
     }
+    Ok(())
 }
 
 // What the program says of its book at the end, beside what the window says is pending.
@@ -234,19 +238,26 @@ fn without_hedges(gone: [u64; 11]) -> [u64; 11]
 }
 
 // The book and the verdict on it. The same book without one of its entries is judged too, so that both verdicts are seen.
-fn close(words: &[u64], b: Book) {
+fn close(rt: &impl Print, words: &[u64], b: Book) -> io::Result<()> {
     let pending = ledger::value(window_queries::pending_len(words));
     let bytes = ledger::value(window_queries::pending_bytes(words));
     let l = b.gone;
     let m = b.gone_bytes;
-    put(b"\nThe book                           blocks       bytes\n");
+    put(
+        rt,
+        b"\nThe book                           blocks       bytes\n",
+    )?;
     page(
+        rt,
         ledger::column(b.blocks, l, pending),
         ledger::column(b.bytes, m, bytes),
-    );
+    )?;
     let v = verdict(b, pending, bytes);
-    put(&v);
-    put(b"\nThe same book without the block that went in the hedge:\n");
+    put(rt, &v)?;
+    put(
+        rt,
+        b"\nThe same book without the block that went in the hedge:\n",
+    )?;
     let lacking = Book {
         blocks: b.blocks,
         bytes: b.bytes,
@@ -254,7 +265,7 @@ fn close(words: &[u64], b: Book) {
         gone_bytes: without_hedges(m),
     };
     let w = verdict(lacking, pending, bytes);
-    put(&w);
+    put(rt, &w)
 }
 
 fn blank() -> [u64; 4096] {
@@ -275,7 +286,7 @@ fn none_staged() -> [u64; 256] {
     [0; 256]
 }
 
-fn main() {
+fn main(rt: HostRuntime) -> io::Result<()> {
     let mut words = blank();
     let mut hashes = no_hashes();
     let mut heights = no_heights();
@@ -292,7 +303,15 @@ fn main() {
         plan,
         staged: 0,
     };
-    let end = play(&mut words, &mut hashes, &mut heights, &mut staged, h, &text);
+    let end = play(
+        &rt,
+        &mut words,
+        &mut hashes,
+        &mut heights,
+        &mut staged,
+        h,
+        &text,
+    )?;
     let b = end.book;
-    close(&words, b);
+    close(&rt, &words, b)
 }

@@ -2,11 +2,15 @@
 // are compared with the recorded ones, part by part (crates/recorded), and what differs is named. Every call is a public one, made by crates/replayed.
 #![tactic(auto)]
 
+ghost use Rattle.std.specs.Prelude.{◌≤◌, length, IfOk};
+
 use recorded::compare::{compared, is_same};
 use recorded::input::read_numbers;
 use recorded::runs::{put_runs, record_at};
 use recorded::{Record, Same};
 use replayed::acts::perform;
+use std::io;
+use std::io::Read;
 use std::num::wrapping_add_u64;
 
 #[derive(Clone, Copy)]
@@ -22,39 +26,40 @@ fn one(words: &mut [u64], expected: &mut [u64], numbers: &[u64], r: Record) -> S
     compared(s, words, expected, numbers, r)
 }
 
-fn unless(same: bool, part: &[u8]) {
+fn unless(rt: &impl Print, same: bool, part: &str) -> io::Result<()> {
     if same {
-        return;
+        return Ok(());
     }
-    io::write_all(1, part);
+    print!(rt; "{part}")
 }
 
-fn name(number: u64, kind: u64, q: Same) {
-    io::write_all(1, b"record ");
-    io::print_decimal(1, number);
-    io::write_all(1, b", call ");
-    io::print_decimal(1, kind);
-    io::write_all(1, b" differs in");
-    unless(q.refusal, b" refusal");
-    unless(q.answer, b" answer");
-    unless(q.count, b" count");
-    unless(q.order, b" order");
-    unless(q.values, b" values");
-    unless(q.reasons, b" reasons");
-    unless(q.words, b" words");
-    io::write_all(1, b"\n");
+fn name(rt: &impl Print, number: u64, kind: u64, q: Same) -> io::Result<()> {
+    print!(rt; "record {number}, call {kind} differs in")?;
+    unless(rt, q.refusal, " refusal")?;
+    unless(rt, q.answer, " answer")?;
+    unless(rt, q.count, " count")?;
+    unless(rt, q.order, " order")?;
+    unless(rt, q.values, " values")?;
+    unless(rt, q.reasons, " reasons")?;
+    unless(rt, q.words, " words")?;
+    println!(rt; "")
 }
 
 // A call that differs is named, and counted.
-fn told(differing: u64, number: u64, kind: u64, q: Same) -> u64 {
+fn told(rt: &impl Print, differing: u64, number: u64, kind: u64, q: Same) -> io::Result<u64> {
     if is_same(q) {
-        return differing;
+        return Ok(differing);
     }
-    name(number, kind, q);
-    wrapping_add_u64(differing, 1)
+    name(rt, number, kind, q)?;
+    Ok(wrapping_add_u64(differing, 1))
 }
 
-fn replay(words: &mut [u64], expected: &mut [u64], numbers: &[u64]) -> Count {
+fn replay(
+    rt: &impl Print,
+    words: &mut [u64],
+    expected: &mut [u64],
+    numbers: &[u64],
+) -> io::Result<Count> {
     let mut calls: u64 = 0;
     let mut differing: u64 = 0;
     let mut at: u64 = 0;
@@ -62,39 +67,54 @@ fn replay(words: &mut [u64], expected: &mut [u64], numbers: &[u64]) -> Count {
     while 0 < turns {
         let r = record_at(numbers, at);
         if r.kind == 0 {
-            return Count { calls, differing };
+            return Ok(Count { calls, differing });
         }
         let q = one(words, expected, numbers, r);
         calls = wrapping_add_u64(calls, 1);
-        differing = told(differing, calls, r.kind, q);
+        differing = told(rt, differing, calls, r.kind, q)?;
         at = r.next;
         turns -= 1;
     }
-    Count { calls, differing }
+    Ok(Count { calls, differing })
 }
 
 fn blank() -> [u64; 4096] {
     [0; 4096]
 }
 
-fn replayed(numbers: &[u64]) -> Count {
+fn replayed(rt: &impl Print, numbers: &[u64]) -> io::Result<Count> {
     let mut words = blank();
     let mut expected = blank();
-    replay(&mut words, &mut expected, numbers)
+    replay(rt, &mut words, &mut expected, numbers)
 }
 
-fn report(c: Count) {
-    io::print_decimal(1, std::num::wrapping_sub_u64(c.calls, c.differing));
-    io::write_all(1, b" calls as recorded, ");
-    io::print_decimal(1, c.differing);
-    io::write_all(1, b" differ\n");
+fn report(rt: &impl Print, c: Count) -> io::Result<()> {
+    let same = std::num::wrapping_sub_u64(c.calls, c.differing);
+    let differing = c.differing;
+    println!(rt; "{same} calls as recorded, {differing} differ")
 }
 
-fn run(bytes: &mut [u8], numbers: &mut [u64]) {
-    let n = io::read_full(0, bytes);
+// Reads until the room is full or the input ends; how many bytes were read.
+fn read_full(input: &mut impl Read, bytes: &mut [u8]) -> io::Result<usize>
+    ensures { IfOk result (λ n. n ≤ length bytes.new) }
+{
+    let mut done: usize = 0;
+    while done < bytes.len() {
+        let n = input.read(&mut bytes[done..])?;
+        if n == 0 {
+            break;
+        }
+        done += n;
+    }
+    Ok(done)
+}
+
+fn run(rt: &(impl Print + Input), bytes: &mut [u8], numbers: &mut [u64]) -> io::Result<()> {
+    let mut input = rt.reader();
+    let n = read_full(&mut input, bytes)?;
     read_numbers(&bytes[..n], numbers);
-    let c = replayed(numbers);
-    report(c);
+    let c = replayed(rt, numbers)?;
+    report(rt, c)
 }
 
 fn room() -> [u8; 600000] {
@@ -105,8 +125,8 @@ fn number_room() -> [u64; 200000] {
     [0; 200000]
 }
 
-fn main() {
+fn main(rt: HostRuntime) -> io::Result<()> {
     let mut bytes = room();
     let mut numbers = number_room();
-    run(&mut bytes, &mut numbers);
+    run(&rt, &mut bytes, &mut numbers)
 }

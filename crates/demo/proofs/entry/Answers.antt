@@ -4,4 +4,4 @@ use lib.Seq.{length-take-le}
 use Rattle.demo.proofs.entry.Goals as goal
 
 pub slice_bounds-put-end : goal.slice_bounds-put-end
-slice_bounds-put-end c = sym (length-take-le 54 c.entry-l.result (slice_bounds-l-end c))
+slice_bounds-put-end g c = sym (length-take-le 54 c.entry-l.result (search rules))

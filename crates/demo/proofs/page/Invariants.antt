@@ -3,7 +3,7 @@ use Prim.Native.Nat.{◌-◌}
 use Rattle.demo.proofs.page.Given as goal
 
 abbrev pub invariant-loop-k : goal.invariant-loop-k
-invariant-loop-k l = Unit {0}
+invariant-loop-k g l = Unit {0}
 
 abbrev pub decreases-loop-k : goal.decreases-loop-k
-decreases-loop-k l = 13 - l.k
+decreases-loop-k g l = 13 - l.k

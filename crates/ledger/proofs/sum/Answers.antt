@@ -28,9 +28,9 @@ loop-i-smaller c = omega arith
 
 pub loop-i-preserved : goal.loop-i-preserved
 loop-i-preserved c =
-    (one_more c.args.t1 c.loop-i.s c.loop-i.i c.plus-s.result c.loop-i.invariant.0 c.plus-s.ensures, omega arith)
+    (one_more c.args.l c.loop-i.s c.loop-i.i c.plus-s.result c.loop-i.invariant.0 c.plus-s.ensures, omega arith)
 
 pub returns : goal.returns
 returns c =
     let end : c.loop-i.i ≡ 11 = omega (arith, c.loop-i.invariant.1) in
-    c.loop-i.invariant.0 ∙ ap (λ (k : ℕ). capped_sum k c.args.t1) end
+    c.loop-i.invariant.0 ∙ ap (λ (k : ℕ). capped_sum k c.args.l) end

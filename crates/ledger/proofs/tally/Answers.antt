@@ -55,7 +55,7 @@ loop-i-preserved c =
       omega arith,
       v.invariant.1,
       v.invariant.2,
-      turn a.bytes a.t2 a.l v.m c.one_more-x.result v.i c.weight.result v.invariant.3 c.weight.ensures c.one_more-x.ensures,
+      turn a.bytes a.gone a.l v.m c.one_more-x.result v.i c.weight.result v.invariant.3 c.weight.ensures c.one_more-x.ensures,
     )
 
 pub returns : goal.returns
@@ -63,4 +63,4 @@ returns c =
     let v = c.loop-i in
     let a = c.args in
     let e : v.i ≡ lesser a.n 256 = omega (arith, v.invariant.0, v.invariant.2) in
-    v.invariant.3 ∙ ap (λ (i : ℕ). tallied a.bytes a.t2 i a.l) e
+    v.invariant.3 ∙ ap (λ (i : ℕ). tallied a.bytes a.gone i a.l) e

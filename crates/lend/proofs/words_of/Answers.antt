@@ -42,12 +42,12 @@ pub loop-i-preserved : goal.loop-i-preserved
 loop-i-preserved c =
     let v = c.loop-i in
     let a = c.args in
-    rw add-one (one a.t1 v.gone c.put_release.new.gone v.i (search rules) (omega arith) c.put_release.auto.gone c.put_release.ensures v.invariant)
+    rw add-one (one a.report v.gone c.put_release.new.gone v.i (search rules) (omega arith) c.put_release.auto.gone c.put_release.ensures v.invariant)
 
 pub returns : goal.returns
 returns c =
     let v = c.loop-i in
     let a = c.args in
     let e : v.i ≡ 256 = omega (arith, v.invariant.0) in
-    let n : length a.t1 ≡ 256 = search rules in
-    ap (λ (i : ℕ). releases_of i v.gone) (sym e) ∙ v.invariant.2 ∙ take_all v.i a.t1 (omega (arith, n, e))
+    let n : length a.report ≡ 256 = search rules in
+    ap (λ (i : ℕ). releases_of i v.gone) (sym e) ∙ v.invariant.2 ∙ take_all v.i a.report (omega (arith, n, e))

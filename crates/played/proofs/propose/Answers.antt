@@ -9,9 +9,6 @@ use Rattle.played.specs.Told.{plan_kept, plan_told, turns_proposing}
 use Rattle.script.specs.Given.{words_to}
 use Rattle.played.proofs.propose.Goals as goal
 
-pub slice_bounds-next_peer_request-end : goal.slice_bounds-next_peer_request-end
-slice_bounds-next_peer_request-end c = sym (length-take-le _ _ (slice_bounds-chain-end c))
-
 pub returns : goal.returns
 returns c =
     let at-chain = c in

@@ -6,12 +6,6 @@ use Rattle.lend.specs.Goes.{leaves_as}
 use Rattle.model.specs.Refusals.{changes, confirms_probe}
 use Rattle.replayed.proofs.acts.confirm.Goals as goal
 
-pub slice_bounds-confirm_prefix_probe-end : goal.slice_bounds-confirm_prefix_probe-end
-slice_bounds-confirm_prefix_probe-end c = sym (length-take-le _ _ (slice_bounds-given-end c))
-
-pub slice_bounds-confirm_prefix_probe-end-2 : goal.slice_bounds-confirm_prefix_probe-end-2
-slice_bounds-confirm_prefix_probe-end-2 c = sym (length-take-le _ _ (slice_bounds-others-end c))
-
 pub returns : goal.returns
 returns c =
     let start = c in

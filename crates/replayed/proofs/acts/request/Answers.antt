@@ -6,12 +6,6 @@ use Rattle.lend.specs.Goes.{leaves_as}
 use Rattle.model.specs.Refusals.{changes, requests}
 use Rattle.replayed.proofs.acts.request.Goals as goal
 
-pub slice_bounds-mark_requested-end : goal.slice_bounds-mark_requested-end
-slice_bounds-mark_requested-end c = sym (length-take-le _ _ (slice_bounds-hashes-end c))
-
-pub slice_bounds-mark_requested-end-2 : goal.slice_bounds-mark_requested-end-2
-slice_bounds-mark_requested-end-2 c = sym (length-take-le _ _ (slice_bounds-heights-end c))
-
 pub returns : goal.returns
 returns c =
     let start = c in
