@@ -236,9 +236,10 @@ impl Results {
         let model = cpu.lines().find_map(|line| line.strip_prefix("model name\t: ")).unwrap_or("unknown").to_string();
         let cores = cpu.lines().filter(|line| line.starts_with("processor")).count();
         let calls = self.rounds * 100;
+        let kit = std::env::var("KOFUDILE_KIT").unwrap_or_else(|_| "a kit that is not here".to_string());
         format!(
             "# Times beside the Rust\n\nWritten by `bench/run`; bench/README.md says how it measures. Medians of {calls} calls each ({} of sweeps, retirements and \
-             lost seats), {OWNERS} owners, on {cores} cores ({model}), load {} at the start.\n",
+             lost seats), {OWNERS} owners, on {cores} cores ({model}), load {} at the start. Ours was built by {kit}.\n",
             calls / 5,
             self.load
         )
