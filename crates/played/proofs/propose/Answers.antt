@@ -1,7 +1,6 @@
 -- `played::propose` meets its contract. Assumes nothing.
 use mathlib.Core.Path.{◌∙◌, ap, refl, sym}
 use lib.ListN.{length}
-use lib.Seq.{length-take-le}
 use Rattle.model.specs.Refusals.{changes, plans}
 use Rattle.model.specs.Says.{next_request_says}
 use Rattle.played.specs.Steps.{kept, lent_at, planning}

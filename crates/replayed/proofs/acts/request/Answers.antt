@@ -1,6 +1,5 @@
 -- `replayed::acts::request` meets its contract. Assumes nothing.
 use mathlib.Core.Path.{sym}
-use lib.Seq.{length-take-le}
 use lib.ListN.{take}
 use Rattle.lend.specs.Goes.{leaves_as}
 use Rattle.model.specs.Refusals.{changes, requests}
