@@ -24,6 +24,16 @@ def library(root, name):
     return root / "crates" / name / "out" / "rlib" / f"{name}.rlib"
 
 
+def left_by_ci(root, name):
+    """Whether the library of a crate is one that `rt ci` made of the text that is there now. A library of any other command has a stamp beside it."""
+    made = library(root, name)
+    if not (made / "format").is_file() or (made.parent / "stamp").exists():
+        return False
+    moment = made.stat().st_mtime
+    read = [root / "crates.txt"] + [it for part in ("src", "specs", "proofs") for it in (root / "crates" / name / part).rglob("*")]
+    return all(it.stat().st_mtime <= moment for it in read)
+
+
 @functools.lru_cache
 def kit():
     """The kit's folder."""
