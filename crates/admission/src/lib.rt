@@ -1,13 +1,14 @@
-// What a call is refused by: the numbers of SPECIFICATION 4.1, the lowest first, or 0. Of a request's list, 7 and 8, see `request_calls`; of the lists
+// What a call is refused by: of the numbers of SPECIFICATION 4.1 the lowest. Of a request's list, 7 and 8, see `request_calls`; of the lists
 // of a plan, 12 and then 10, see `plan_calls`.
 #![tactic(auto)]
 
 ghost use Rattle.std.specs.Prelude.{◌≡◌, true, false};
 ghost use Rattle.model.specs.Numbers.{clock_ok};
 ghost use Rattle.model.specs.Layout.{settings_ok};
+ghost use Rattle.model.specs.Says.{refusal_number};
 ghost use Rattle.model.specs.Refusals.{at, timeless, checking, nothing, keys_ok, window_refusal, opening_refusal, body_refusal, source_ok, alternates_ok};
 
-use model::{Settings, Source, at, limits, sizes};
+use model::{Refusal, Settings, at, limits, sizes};
 
 // `clock_ok`: a clock is within the bound, and not before the last accepted one.
 fn clock_fits(last: u64, clock: u64) -> bool
@@ -16,40 +17,40 @@ fn clock_fits(last: u64, clock: u64) -> bool
     (clock <= limits::MAX_CLOCK) & (last <= clock)
 }
 
-// What a call or query without a clock and without a report is refused by: 1, 2, 6, or 0 for none.
-pub fn refused_by(words: &[u64], peers: bool) -> u64
-    ensures { result ≡ window_refusal (checking false timeless peers nothing) words.now 0 }
+// What a call or query without a clock and without a report is refused by: 1, 2, 6.
+pub fn refused_by(words: &[u64], peers: bool) -> Result<(), Refusal>
+    ensures { refusal_number result ≡ window_refusal (checking false timeless peers nothing) words.now 0 }
 {
     if words.len() != at::WORDS {
-        return 1;
+        return Err(Refusal::WordCount);
     }
     if !check_window::is_window(words) {
-        return 2;
+        return Err(Refusal::NotAWindow);
     }
     if !peers {
-        return 6;
+        return Err(Refusal::Seats);
     }
-    0
+    Ok(())
 }
 
-// The same with a clock: 1, 2, 4, 6, or 0 for none.
-pub fn refused_by_at(words: &[u64], clock: u64, peers: bool) -> u64
-    ensures { result ≡ window_refusal (checking false (at clock) peers nothing) words.now 0 }
+// The same with a clock: 1, 2, 4, 6.
+pub fn refused_by_at(words: &[u64], clock: u64, peers: bool) -> Result<(), Refusal>
+    ensures { refusal_number result ≡ window_refusal (checking false (at clock) peers nothing) words.now 0 }
 {
     if words.len() != at::WORDS {
-        return 1;
+        return Err(Refusal::WordCount);
     }
     if !check_window::is_window(words) {
-        return 2;
+        return Err(Refusal::NotAWindow);
     }
     let last = state::get_clock(words);
     if !clock_fits(last, clock) {
-        return 4;
+        return Err(Refusal::Clock);
     }
     if !peers {
-        return 6;
+        return Err(Refusal::Seats);
     }
-    0
+    Ok(())
 }
 
 // ---- the opening
@@ -76,98 +77,93 @@ fn settings_fit(b: Settings) -> bool
 fn keys_fit(keys: &[u64]) -> bool
     ensures { result ≡ keys_ok keys.now }
 {
-    if keys.len() != sizes::SEATS {
-        return false;
-    }
-    let mut i = 0;
-    while i < sizes::SEATS {
-        if keys[i] > limits::MAX_SEAT {
-            return false;
-        }
-        i += 1;
-    }
-    true
+    keys.len() == sizes::SEATS && keys.iter().all(|k| *k <= limits::MAX_SEAT)
 }
 
-// What an opening is refused by: 1, 4 by the bound alone, 5, 6, or 0 for none. Of the words it reads nothing.
-pub fn opening_refused_by(words: &[u64], clock: u64, b: Settings, keys: &[u64]) -> u64
-    ensures { result ≡ opening_refusal clock b keys.now words.now }
+// What an opening is refused by: 1, 4 by the bound alone, 5, 6. Of the words it reads nothing.
+pub fn opening_refused_by(
+    words: &[u64],
+    clock: u64,
+    b: Settings,
+    keys: &[u64],
+) -> Result<(), Refusal>
+    ensures { refusal_number result ≡ opening_refusal clock b keys.now words.now }
 {
     if words.len() != at::WORDS {
-        return 1;
+        return Err(Refusal::WordCount);
     }
     if !clock_fits(0, clock) {
-        return 4;
+        return Err(Refusal::Clock);
     }
     if !settings_fit(b) {
-        return 5;
+        return Err(Refusal::Settings);
     }
     if !keys_fit(keys) {
-        return 6;
+        return Err(Refusal::Seats);
     }
-    0
+    Ok(())
 }
 
 // ---- calls that let go
 
-// What a call that lets go, without a clock, is refused by: 1, 2, 3, 6, or 0 for none. `room` is the report's length.
-pub fn timeless_report_refused_by(words: &[u64], room: usize, peers: bool) -> u64
-    ensures { result ≡ window_refusal (checking true timeless peers nothing) words.now room }
+// What a call that lets go, without a clock, is refused by: 1, 2, 3, 6. `room` is the report's length.
+pub fn timeless_report_refused_by(words: &[u64], room: usize, peers: bool) -> Result<(), Refusal>
+    ensures { refusal_number result ≡ window_refusal (checking true timeless peers nothing) words.now room }
 {
     if words.len() != at::WORDS {
-        return 1;
+        return Err(Refusal::WordCount);
     }
     if !check_window::is_window(words) {
-        return 2;
+        return Err(Refusal::NotAWindow);
     }
     if room < sizes::PLACES {
-        return 3;
+        return Err(Refusal::ShortReport);
     }
     if !peers {
-        return 6;
+        return Err(Refusal::Seats);
     }
-    0
+    Ok(())
 }
 
-// The same with a clock: 1, 2, 3, 4, 6, or 0 for none.
-pub fn report_refused_by(words: &[u64], room: usize, clock: u64, peers: bool) -> u64
-    ensures { result ≡ window_refusal (checking true (at clock) peers nothing) words.now room }
+// The same with a clock: 1, 2, 3, 4, 6.
+pub fn report_refused_by(words: &[u64], room: usize, clock: u64, peers: bool) -> Result<(), Refusal>
+    ensures { refusal_number result ≡ window_refusal (checking true (at clock) peers nothing) words.now room }
 {
-    let k = timeless_report_refused_by(words, room, true);
-    if k != 0 {
-        return k;
-    }
+    timeless_report_refused_by(words, room, true)?;
     let accepted = state::get_clock(words);
     if !clock_fits(accepted, clock) {
-        return 4;
+        return Err(Refusal::Clock);
     }
     if !peers {
-        return 6;
+        return Err(Refusal::Seats);
     }
-    0
+    Ok(())
 }
 
-// The same with a clock and a body: 1, 2, 3, 4, 6, 9, or 0 for none.
-pub fn body_refused_by(words: &[u64], room: usize, clock: u64, peers: bool, bytes: u64) -> u64
-    ensures { result ≡ window_refusal (checking true (at clock) peers (body_refusal bytes)) words.now room }
+// The same with a clock and a body: 1, 2, 3, 4, 6, 9.
+pub fn body_refused_by(
+    words: &[u64],
+    room: usize,
+    clock: u64,
+    peers: bool,
+    bytes: u64,
+) -> Result<(), Refusal>
+    ensures { refusal_number result ≡ window_refusal (checking true (at clock) peers (body_refusal bytes)) words.now room }
 {
-    let n = report_refused_by(words, room, clock, peers);
-    if n != 0 {
-        return n;
-    }
+    report_refused_by(words, room, clock, peers)?;
     if bytes > limits::MAX_BODY {
-        return 9;
+        return Err(Refusal::Body);
     }
-    0
+    Ok(())
 }
 
 // 6, for a source that may be missing.
-pub fn source_ok(source: Source) -> bool
+pub fn source_ok(source: Option<u64>) -> bool
     ensures { result ≡ source_ok source }
 {
     match source {
-        Source::Missing => true,
-        Source::From(s) => s <= limits::MAX_SEAT,
+        None => true,
+        Some(s) => s <= limits::MAX_SEAT,
     }
 }
 
@@ -177,15 +173,5 @@ pub fn source_ok(source: Source) -> bool
 pub fn alternates_ok(alternates: &[u64]) -> bool
     ensures { result ≡ alternates_ok alternates.now }
 {
-    if alternates.len() > sizes::SEATS {
-        return false;
-    }
-    let mut i = 0;
-    while i < alternates.len() {
-        if alternates[i] > limits::MAX_SEAT {
-            return false;
-        }
-        i += 1;
-    }
-    true
+    alternates.len() <= sizes::SEATS && alternates.iter().all(|s| *s <= limits::MAX_SEAT)
 }

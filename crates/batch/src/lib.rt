@@ -18,7 +18,6 @@ ghost use Rattle.report_words.specs.Report.{releases_of};
 ghost use Rattle.batch.specs.Resets.{Oldests, Went, seats_of};
 
 use model::{at, of_release, sizes};
-use records::Oldest;
 
 // ---- the oldest request that each seat has left
 
@@ -38,9 +37,7 @@ fn oldest_left(words: &[u64], count: usize) -> [u64; sizes::SEATS]
     ensures { Oldests result (window_of words.now).queue.pending }
 {
     let mut left = [0; sizes::SEATS];
-    let mut i = count;
-    while 0 < i {
-        i -= 1;
+    for i in (0..count).rev() {
         let o = words[i + at::OWNERS];
         let owner = o as usize;
         left[owner] = sooner_stored(words[i + at::TIMES] + 1, left[owner]);
@@ -50,13 +47,10 @@ fn oldest_left(words: &[u64], count: usize) -> [u64; sizes::SEATS]
 
 // ---- resets
 
-fn left_of(s: u64) -> Oldest
+fn left_of(s: u64) -> Option<u64>
     ensures { stored result ≡ s }
 {
-    if s == 0 {
-        return Oldest::Never;
-    }
-    Oldest::Since(s - 1)
+    s.checked_sub(1)
 }
 
 // `resets`, over the first `n` releases.
@@ -64,14 +58,12 @@ fn reset_all(words: &mut [u64], gone: &[u64], n: usize, clock: u64, left: &[u64;
     requires { (length words.old ≡ 4096) × ((length gone.now ≡ 2304) × ((n ≤ 256) × ((clock ≤ max_clock) × (Went (InRange max_clock) (releases_of n gone.now) × Oldests left.now (window_of words.old).queue.pending)))) }
     ensures { decode words.new ≡ seats_of (resets clock (releases_of n gone.now) (window_of words.old).queue) (decode words.old) }
 {
-    let mut i = 0;
-    while i < n {
+    for i in 0..n {
         let a = sizes::RELEASE_WORDS * i;
         let o = gone[a + of_release::OWNER];
         let owner = o as usize;
         let l = left_of(left[owner]);
         seats::reset_owner_queue_start(words, owner, gone[a + of_release::TIME], clock, l);
-        i += 1;
     }
 }
 

@@ -1,5 +1,5 @@
 -- A credit lets go once: where the cold front's hedge let go, no race is left, so the race's releases stand alone or not at all. Assumes nothing.
-use Rattle.std.specs.Prelude.{◌≡◌, refl, ◌⊎◌, ℕ, suc, eqb}
+use Rattle.std.specs.Prelude.{◌≡◌, refl, ◌⊎◌, ℕ, suc, eqb, None, Option}
 use Rattle.std.proofs.Math.Path.{ap}
 use Rattle.std.proofs.Common.{◌∙◌, arith}
 use Rattle.std.proofs.Math.Logic.{inl, inr}
@@ -14,8 +14,7 @@ use Rattle.model.specs.declared.Hash.{Hash}
 use Rattle.model.specs.declared.Release.{Release}
 use Rattle.model.specs.declared.ColdFront.{ColdFront}
 use Rattle.model.specs.declared.ColdFront.TheVariants.{Idle, Waiting, Racing}
-use Rattle.model.specs.declared.Probe.{Probe}
-use Rattle.model.specs.declared.Probe.TheVariants.{NoProbe}
+use Rattle.model.specs.declared.PrefixProbe.{PrefixProbe}
 use Rattle.laws.specs.Numbers.{both}
 use Rattle.laws.specs.Sound.{Sound}
 use Rattle.laws.specs.Parts.{bounded_set, sound_queue}
@@ -23,9 +22,9 @@ use Rattle.laws.specs.CallsKept.{duplicate_steady}
 
 -- nothing went, or no probe is left
 abbrev Quiet : Step → Type 0
-Quiet s = (s.gone ≡ []) ⊎ (s.window.races.probe ≡ NoProbe)
+Quiet s = (s.gone ≡ []) ⊎ (s.window.races.probe ≡ None)
 
-lost_quiet : (owner alternate now : ℕ) (w : Window) → (hedge_lost owner alternate now w).window.races.probe ≡ NoProbe
+lost_quiet : (owner alternate now : ℕ) (w : Window) → (hedge_lost owner alternate now w).window.races.probe ≡ None
 unfolding hedge_lost retain_peer_assignments extract seats_kept mark_peer_unresponsive
 lost_quiet owner alternate now w = refl
 
@@ -52,7 +51,7 @@ module _ (h : Hash) (source now : ℕ) (w : Window) where
   resolved_some n = elim (resolve_quiet w.races.cold h source now w) [
     | inl e ↦ absurd (n e)
     | inr e ↦
-        let q : races resolved.window ≡ stay resolved.window = ap (λ (p : Probe). probe_delivery p h source now resolved.window) e in
+        let q : races resolved.window ≡ stay resolved.window = ap (λ (p : Option PrefixProbe). probe_delivery p h source now resolved.window) e in
         (λ i. record { window = (q i).window; gone = resolved.gone ++ (q i).gone }) ∙ (λ i. record { window = resolved.window; gone = append-nil resolved.gone i })
   ]
 

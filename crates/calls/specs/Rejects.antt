@@ -1,5 +1,5 @@
 -- A rejection, by whether its source owns the entry. Assumes nothing.
-use Rattle.std.specs.Prelude.{◌≡◌, refl, Bool, true, false, cond, ◌&&◌, ◌||◌, ℕ, suc, ◌≤◌, length, eqb}
+use Rattle.std.specs.Prelude.{◌≡◌, refl, Bool, true, false, cond, ◌&&◌, ◌||◌, ℕ, suc, ◌≤◌, length, eqb, None, Some, Option}
 use Rattle.std.proofs.Common.{sym, ◌∙◌, inl, inr, arith}
 use Rattle.std.proofs.Math.Path.{ap, subst}
 use mathlib.Core.List.{List, []}
@@ -9,14 +9,12 @@ use Rattle.model.specs.LettingGo.{remove_pending}
 use Rattle.model.specs.Calls.{unless_front, is_owner, rejected_by, reject_delivery, credit_duplicate_delivery}
 use Rattle.model.specs.Queries.{flag}
 use Rattle.model.specs.Perform.{says}
-use Rattle.model.specs.Says.{rejected_says}
+use Rattle.model.specs.Says.{rejected_answer}
 use Rattle.model.specs.Window.{Window, Queue, Step, stay}
 use Rattle.model.specs.declared.Hash.{Hash}
 use Rattle.model.specs.declared.Release.{Release}
 use Rattle.model.specs.declared.Rejected.{Rejected}
 use Rattle.model.specs.declared.Rejected.TheVariants.{ReleasedPending, DiscardedUnsolicited}
-use Rattle.model.specs.declared.Source.{Source}
-use Rattle.model.specs.declared.Source.TheVariants.{Missing, From}
 use Rattle.model.specs.declared.ColdFront.{ColdFront}
 use Rattle.model.specs.declared.ColdFront.TheVariants.{Idle, Waiting, Racing}
 use Rattle.laws.specs.Numbers.{both}
@@ -32,22 +30,22 @@ front_sound c h source (Waiting owner x since) k = elim (both (same x h && eqb o
 front_sound c h source (Racing owner alternate x) k = elim (both (same x h && (eqb source owner || eqb source alternate))) [ inl q ↦ rw q tt | inr q ↦ rw q k ]
 
 -- what comes before the removal keeps a window sound, and its queue
-pub rejected_sound : {c : ℕ} {w : Window} (s : Source) (h : Hash) → Sound c w → Sound c (rejected_by s h w)
-rejected_sound Missing h g = g
-rejected_sound {c} {w} (From s) h g = sound_cold (duplicate_steady h s g).sound _ (front_sound c h s w.races.cold g.races.cold)
+pub rejected_sound : {c : ℕ} {w : Window} (s : Option ℕ) (h : Hash) → Sound c w → Sound c (rejected_by s h w)
+rejected_sound None h g = g
+rejected_sound {c} {w} (Some s) h g = sound_cold (duplicate_steady h s g).sound _ (front_sound c h s w.races.cold g.races.cold)
 
-rejected_queue : (s : Source) (h : Hash) (w : Window) → (rejected_by s h w).queue ≡ w.queue
+rejected_queue : (s : Option ℕ) (h : Hash) (w : Window) → (rejected_by s h w).queue ≡ w.queue
 unfolding credit_duplicate_delivery
-rejected_queue Missing h w = refl
-rejected_queue (From s) h w = refl
+rejected_queue None h w = refl
+rejected_queue (Some s) h w = refl
 
-module _ (h : Hash) (s : Source) (c : ℕ) (w : Window) where
+module _ (h : Hash) (s : Option ℕ) (c : ℕ) (w : Window) where
   abbrev owns : Bool
   owns = is_owner s (found h w.queue.pending)
 
   abbrev pub Rejects : Rejected → List ℕ → List ℕ → Type 0
   Rejects r ws gs =
-      (rejected_says r ≡ says (length (reject_delivery h s c w).gone) (flag owns))
+      (rejected_answer r ≡ says (length (reject_delivery h s c w).gone) (flag owns))
       × (Holds (reject_delivery h s c w).window ws)
       × (releases_of (length (reject_delivery h s c w).gone) gs ≡ (reject_delivery h s c w).gone)
 

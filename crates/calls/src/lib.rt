@@ -8,24 +8,21 @@ ghost use Rattle.model.specs.Calls.{body_noted, credit_duplicate_delivery, heigh
 ghost use Rattle.model.specs.Records.{found};
 ghost use Rattle.model.specs.Queries.{flag};
 ghost use Rattle.model.specs.Perform.{says};
-ghost use Rattle.model.specs.Says.{rejected_says};
+ghost use Rattle.model.specs.Says.{rejected_answer};
 ghost use Rattle.model.specs.Layout.{window_of};
 ghost use Rattle.laws.specs.Sound.{Sound};
 ghost use Rattle.laws.specs.Whole.{Whole, Holds};
 ghost use Rattle.report_words.specs.Report.{releases_of};
 
-use model::{Front, Hash, Height, Rejected, Source};
+use model::{Entry, Hash, Rejected};
 
 // ---- deliveries
 
 // `height_of`: an unasked body has no pending height.
-pub fn height_of(front: Front) -> Height
+pub fn height_of(front: Option<Entry>) -> Option<u64>
     ensures { result ≡ height_of front }
 {
-    match front {
-        Front::Nothing => Height::Unknown,
-        Front::At(e) => Height::Known(e.height),
-    }
+    front.map(|e| e.height)
 }
 
 // What `credit_delivery_from` does before the races: the source's last body, and the observation.
@@ -40,15 +37,12 @@ pub fn credit_begun(words: &mut [u64], h: Hash, source: u64, clock: u64)
 // ---- rejections
 
 // `is_owner`: a missing source owns nothing.
-fn is_owner(source: Source, front: Front) -> bool
+fn is_owner(source: Option<u64>, front: Option<Entry>) -> bool
     ensures { result ≡ is_owner source front }
 {
-    match source {
-        Source::Missing => false,
-        Source::From(s) => match front {
-            Front::Nothing => false,
-            Front::At(e) => e.owner == s,
-        },
+    match (source, front) {
+        (Some(s), Some(e)) => e.owner == s,
+        _ => false,
     }
 }
 
@@ -57,11 +51,11 @@ pub fn reject_delivery(
     words: &mut [u64],
     gone: &mut [u64],
     h: Hash,
-    source: Source,
+    source: Option<u64>,
     clock: u64,
 ) -> Rejected
     requires { Whole words.old × (Sound clock (window_of words.old) × (9 ≤ length gone.old)) }
-    ensures { (rejected_says result ≡ says (length (reject_delivery h source clock (window_of words.old)).gone) (flag (is_owner source (found h (window_of words.old).queue.pending))))
+    ensures { (rejected_answer result ≡ says (length (reject_delivery h source clock (window_of words.old)).gone) (flag (is_owner source (found h (window_of words.old).queue.pending))))
         × (Holds (reject_delivery h source clock (window_of words.old)).window words.new)
         × (releases_of (length (reject_delivery h source clock (window_of words.old)).gone) gone.new ≡ (reject_delivery h source clock (window_of words.old)).gone) }
 {

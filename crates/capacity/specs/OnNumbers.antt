@@ -1,18 +1,16 @@
 -- `compute_request_capacity` on numbers, and that the model's is this one at the window's numbers. Assumes nothing.
-use Rattle.std.specs.Prelude.{◌≡◌, refl, ◌||◌, cond, ℕ, ◌-◌, length, eqb, ltb}
+use Rattle.std.specs.Prelude.{◌≡◌, refl, ◌||◌, cond, ℕ, ◌-◌, length, eqb, ltb, Option, None, Some}
 use Rattle.model.specs.declared.Settings.{Settings}
 use Rattle.model.specs.declared.Fanout.{Fanout}
 use Rattle.model.specs.Numbers.{lesser}
 use Rattle.model.specs.Records.{pending_count_for}
 use Rattle.model.specs.Window.{Window}
 use Rattle.model.specs.Capacity.{Capacity, no_capacity, capacity, peer_inflight, effective_peer_inflight, batch_limit, byte_capacity, compute_request_capacity}
-use Rattle.capacity.specs.declared.Batch.{Batch}
-use Rattle.capacity.specs.declared.Batch.TheVariants.{Nothing, Upto}
 
 -- what the code's answer says
-abbrev pub batch_says : Batch → Capacity
-batch_says Nothing = no_capacity
-batch_says (Upto batch bytes) = capacity batch bytes
+abbrev pub batch_says : Option (ℕ × ℕ) → Capacity
+batch_says None = no_capacity
+batch_says (Some p) = capacity p.0 p.1
 
 unfoldable pub batch_limit_by : Settings → Fanout → ℕ → ℕ → ℕ → ℕ
 batch_limit_by b f owned len count_headroom =

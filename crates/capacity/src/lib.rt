@@ -7,13 +7,6 @@ ghost use Rattle.capacity.specs.OnNumbers.{batch_limit_by, byte_capacity_by, cap
 
 use model::{Fanout, Settings};
 
-// What `compute_request_capacity` answers: a batch limit and a byte capacity, where there are any.
-#[derive(Clone, Copy)]
-pub enum Batch {
-    Nothing,
-    Upto(u64, u64),
-}
-
 // `peer_inflight`
 pub fn peer_inflight(b: Settings, f: Fanout) -> u64
     ensures { result ≡ peer_inflight b f }
@@ -72,7 +65,7 @@ fn byte_capacity(b: Settings, total: u64, byte_headroom: u64) -> u64
     numbers::lesser(numbers::minus(b.max_pending_bytes, total), byte_headroom)
 }
 
-// `compute_request_capacity` on numbers: none when the batch limit is 0 or the byte capacity is under the mean.
+// `compute_request_capacity` on numbers, a batch limit and a byte capacity: none when the limit is 0 or the capacity is under the mean.
 pub fn compute_capacity(
     b: Settings,
     f: Fanout,
@@ -82,16 +75,16 @@ pub fn compute_capacity(
     mean: u64,
     byte_headroom: u64,
     count_headroom: u64,
-) -> Batch
+) -> Option<(u64, u64)>
     ensures { batch_says result ≡ capacity_by b f owned len total mean byte_headroom count_headroom }
 {
     let batch = batch_limit(b, f, owned, len, count_headroom);
     let bytes = byte_capacity(b, total, byte_headroom);
     if batch == 0 {
-        return Batch::Nothing;
+        return None;
     }
     if bytes < mean {
-        return Batch::Nothing;
+        return None;
     }
-    Batch::Upto(batch, bytes)
+    Some((batch, bytes))
 }

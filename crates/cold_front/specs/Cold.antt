@@ -1,5 +1,5 @@
 -- What the code's answers say in the model's words, and the laws that its steps stand on. Assumes nothing.
-use Rattle.std.specs.Prelude.{◌≡◌, true, false, ◌&&◌, ◌||◌, [], ◌∷◌, ◌++◌, ℕ, ◌-◌, ◌≤◌, ◌<◌, length, eqb}
+use Rattle.std.specs.Prelude.{◌≡◌, true, false, ◌&&◌, ◌||◌, [], ◌∷◌, ◌++◌, ℕ, ◌-◌, ◌≤◌, ◌<◌, length, eqb, None, Some, Option}
 use Rattle.std.proofs.Common.{sym, arith}
 use Rattle.std.proofs.Math.Logic.{inl, inr}
 use Rattle.std.proofs.Math.Dec.{leb}
@@ -14,21 +14,17 @@ use Rattle.model.specs.declared.Hash.{Hash}
 use Rattle.model.specs.declared.Entry.{Entry}
 use Rattle.model.specs.declared.Pace.{Pace}
 use Rattle.model.specs.declared.Settings.{Settings}
-use Rattle.model.specs.declared.Front.{Front}
-use Rattle.model.specs.declared.Front.TheVariants.{Nothing, At}
 use Rattle.model.specs.declared.ColdFront.{ColdFront}
 use Rattle.model.specs.declared.ColdFront.TheVariants.{Idle, Waiting, Racing}
 use Rattle.laws.specs.Numbers.{both}
 use Rattle.laws.specs.Sound.{SoundCold}
 use Rattle.states.specs.Fits.{cold_fits}
-use Rattle.cold_front.specs.declared.Ask.{Ask}
-use Rattle.cold_front.specs.declared.Ask.TheVariants.{NoHedge, HedgeFront}
 use Rattle.cold_front.specs.declared.Turn.{Turn}
 
 -- the model's hedge
-abbrev pub asked : Ask → Hedge
-asked NoHedge = no_hedge
-asked (HedgeFront owner h) = hedge owner h
+abbrev pub asked : Option (ℕ × Hash) → Hedge
+asked None = no_hedge
+asked (Some p) = hedge p.0 p.1
 
 -- the model's step
 abbrev pub turned : Turn → ColdStep
@@ -50,9 +46,9 @@ module _ (clock : ℕ) (k : clock ≤ max_clock) where
     | inr q ↦ rw q k
   ]
 
-  at_fits : (f : Front) (x : ColdFront) (initial : ℕ) → SoundCold clock x → cold_fits (cold_at f x initial clock).cold
-  at_fits Nothing x initial s = tt
-  at_fits (At e) x initial s = wait_fits x e initial s
+  at_fits : (f : Option Entry) (x : ColdFront) (initial : ℕ) → SoundCold clock x → cold_fits (cold_at f x initial clock).cold
+  at_fits None x initial s = tt
+  at_fits (Some e) x initial s = wait_fits x e initial s
 
   pub advance_fits : (next : ℕ) (w : Window) → SoundCold clock w.races.cold → cold_fits (advance_cold_front next clock w).cold
   unfolding advance_cold_front
@@ -81,12 +77,12 @@ module _ (next clock : ℕ) (w : Window) (x : ColdFront) (ex : x ≡ w.races.col
       unfolding advance_cold_front present
       turn_hedged h = rw (← ex, calm, ← ep, m, ← en, le-leb _ _ h)
 
-      module _ (h : n < 2) (f : Front) (ef : f ≡ at_height next w.queue.pending) where
-        pub turn_none : f ≡ Nothing → cold_step Idle no_hedge ≡ advance_cold_front next clock w
+      module _ (h : n < 2) (f : Option Entry) (ef : f ≡ at_height next w.queue.pending) where
+        pub turn_none : f ≡ None → cold_step Idle no_hedge ≡ advance_cold_front next clock w
         unfolding advance_cold_front present
         turn_none q = rw (← ex, calm, ← ep, m, ← en, lt-leb _ _ h, ← ef, q)
 
-        pub turn_at : (e : Entry) (s : Settings) → f ≡ At e → s ≡ w.settings → wait_on x e s.stall_timeout_initial clock ≡ advance_cold_front next clock w
+        pub turn_at : (e : Entry) (s : Settings) → f ≡ Some e → s ≡ w.settings → wait_on x e s.stall_timeout_initial clock ≡ advance_cold_front next clock w
         unfolding advance_cold_front present
         turn_at e s q es = rw (← ex, calm, ← ep, m, ← en, lt-leb _ _ h, ← ef, q, ← es)
 

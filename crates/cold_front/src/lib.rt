@@ -11,20 +11,13 @@ ghost use Rattle.laws.specs.Sound.{SoundCold};
 ghost use Rattle.laws.specs.Whole.{Whole, Holds};
 ghost use Rattle.cold_front.specs.Cold.{asked, turned};
 
-use model::{ColdFront, Entry, Front, Hash, limits};
+use model::{ColdFront, Entry, Hash, limits};
 
-// The model's `Hedge`: an owner and a hash to hedge, where there is one.
-#[derive(Clone, Copy)]
-pub enum Ask {
-    NoHedge,
-    HedgeFront(u64, Hash),
-}
-
-// The model's `ColdStep`.
+// The model's `ColdStep`; what it asks is an owner and a hash to hedge, where there is one.
 #[derive(Clone, Copy)]
 pub struct Turn {
     pub cold: ColdFront,
-    pub asks: Ask,
+    pub asks: Option<(u64, Hash)>,
 }
 
 // `is_racing`
@@ -66,7 +59,7 @@ fn idle() -> Turn
 {
     Turn {
         cold: ColdFront::Idle,
-        asks: Ask::NoHedge,
+        asks: None,
     }
 }
 
@@ -74,7 +67,7 @@ fn idle() -> Turn
 fn anew(owner: u64, h: Hash, clock: u64) -> Turn
     ensures { turned result ≡ cold_step (Waiting owner h clock) no_hedge }
 {
-    let first = Ask::NoHedge;
+    let first = None;
     Turn {
         cold: ColdFront::Waiting(owner, h, clock),
         asks: first,
@@ -89,12 +82,12 @@ fn goes_on(owner: u64, h: Hash, since: u64, initial: u64, clock: u64) -> Turn
     if numbers::minus(clock, since) < initial {
         return Turn {
             cold: cold,
-            asks: Ask::NoHedge,
+            asks: None,
         };
     }
     Turn {
         cold: cold,
-        asks: Ask::HedgeFront(owner, h),
+        asks: Some((owner, h)),
     }
 }
 
@@ -124,7 +117,7 @@ fn next_turn(words: &[u64], next: u64, clock: u64) -> Turn
     if is_racing(cold) {
         return Turn {
             cold: cold,
-            asks: Ask::NoHedge,
+            asks: None,
         };
     }
     let pace = state::get_pace(words);
@@ -136,7 +129,7 @@ fn next_turn(words: &[u64], next: u64, clock: u64) -> Turn
     }
     // SPECIFICATION 6.10 calls it the cold front; it is any entry at the next height, as the Rust has it.
     let lowest = state_queue::at_height(words, next);
-    let Front::At(e) = lowest else {
+    let Some(e) = lowest else {
         return idle();
     };
     let s = state::get_settings(words);
@@ -144,7 +137,7 @@ fn next_turn(words: &[u64], next: u64, clock: u64) -> Turn
 }
 
 // `advance_cold_front`: the cold front is written, the hedge is the answer.
-pub fn advance_cold_front(words: &mut [u64], next: u64, clock: u64) -> Ask
+pub fn advance_cold_front(words: &mut [u64], next: u64, clock: u64) -> Option<(u64, Hash)>
     requires { Whole words.old × ((clock ≤ max_clock) × SoundCold clock (window_of words.old).races.cold) }
     ensures { (asked result ≡ (advance_cold_front next clock (window_of words.old)).asks) × Holds (with_cold (advance_cold_front next clock (window_of words.old)).cold (window_of words.old)) words.new }
 {

@@ -5,18 +5,14 @@
 ghost use Rattle.std.specs.Prelude.{◌≡◌, cond, ◌++◌, ◌∷◌, [], ◌-◌, ◌<◌, ◌≤◌, length, set, take, replicate, eqb};
 ghost use Rattle.column.specs.Edits.{remove_at, inserted, kept_by};
 
-// Takes the first word out: those after it move one place down, and the last place becomes 0. It starts at its slice's own first place: the compiler sees
-// one move of memory in such a loop, and not in one that starts at a place within.
+// Takes the first word out: those after it move one place down, and the last place becomes 0.
 fn remove_first(col: &mut [u64])
     requires { 0 < length col.old }
     ensures { col.new ≡ remove_at 0 col.old ++ (0 ∷ []) }
 {
-    let mut k = 0;
-    while k + 1 < col.len() {
-        col[k] = col[k + 1];
-        k += 1;
-    }
-    col[k] = 0;
+    let last = col.len() - 1;
+    col.copy_within(1.., 0);
+    col[last] = 0;
 }
 
 // Takes the word at `at` out: those after it move one place down, and the last place becomes 0.
@@ -24,8 +20,7 @@ pub fn remove_at(col: &mut [u64], at: usize)
     requires { at < length col.old }
     ensures { col.new ≡ remove_at at col.old ++ (0 ∷ []) }
 {
-    let n = col.len();
-    remove_first(&mut col[at..n]);
+    remove_first(&mut col[at..]);
 }
 
 // Copies `src` over `dst`, which is as long.
@@ -33,26 +28,17 @@ pub fn copy_over(dst: &mut [u64], src: &[u64])
     requires { length dst.old ≡ length src.now }
     ensures { dst.new ≡ src.now }
 {
-    let mut i = 0;
-    while i < src.len() {
-        dst[i] = src[i];
-        i += 1;
-    }
+    dst.copy_from_slice(src);
 }
 
-// Puts `value` at the first place: all words move one place up, and the last falls off. From the end down, and to its slice's own first place, so that the
-// compiler sees one move of memory.
+// Puts `value` at the first place: all words move one place up, and the last falls off.
 fn insert_first(col: &mut [u64], value: u64)
     ensures { col.new ≡ inserted 0 value col.old }
 {
-    let mut i = col.len();
-    if 0 < i {
-        i -= 1;
-        while 0 < i {
-            col[i] = col[i - 1];
-            i -= 1;
-        }
-        col[i] = value;
+    let n = col.len();
+    if 0 < n {
+        col.copy_within(0..n - 1, 1);
+        col[0] = value;
     }
 }
 
@@ -61,8 +47,7 @@ pub fn insert_at(col: &mut [u64], at: usize, value: u64)
     requires { at ≤ length col.old }
     ensures { col.new ≡ inserted at value col.old }
 {
-    let n = col.len();
-    insert_first(&mut col[at..n], value);
+    insert_first(&mut col[at..], value);
 }
 
 // Puts 0 in the places from `from` on.
@@ -70,11 +55,7 @@ pub fn clear_from(col: &mut [u64], from: usize)
     requires { from ≤ length col.old }
     ensures { col.new ≡ take from col.old ++ replicate (length col.old - from) 0 }
 {
-    let mut i = from;
-    while i < col.len() {
-        col[i] = 0;
-        i += 1;
-    }
+    col[from..].fill(0);
 }
 
 // 1 where a word's mark is 0, so that it stays, else 0.
@@ -90,13 +71,10 @@ pub fn keep_unmarked(col: &mut [u64], marks: &[u64])
     requires { length marks.now ≡ length col.old }
     ensures { col.new ≡ kept_by marks.now 0 col.old }
 {
-    let mut i = 0;
     let mut j = 0;
-    while i < col.len() {
+    for (i, mark) in marks.iter().enumerate() {
         col[j] = col[i];
-        let s = places_on(marks[i]);
-        j += s;
-        i += 1;
+        j += places_on(*mark);
     }
     clear_from(col, j);
 }

@@ -34,11 +34,8 @@ fn drop_cooled(table: &mut [u64], cooldown: u64, clock: u64)
     requires { clock ≤ max_clock }
     ensures { table.new ≡ map (kept cooldown clock) table.old }
 {
-    let mut i = 0;
-    while i < table.len() {
-        let stored = table[i];
-        table[i] = kept(cooldown, clock, stored);
-        i += 1;
+    for stored in table.iter_mut() {
+        *stored = kept(cooldown, clock, *stored);
     }
 }
 

@@ -3,18 +3,17 @@
 // last.
 #![tactic(auto)]
 
-ghost use Rattle.std.specs.Prelude.{◌≤◌};
+ghost use Rattle.std.specs.Prelude.{◌≤◌, Some};
 ghost use Rattle.model.specs.Numbers.{max_estimate, max_body};
 ghost use Rattle.model.specs.Calls.{credit_duplicate_delivery, record_delivery_progress, progress_by, next_mean, rejected_by, set_fanout_eligible_peers, clear_preferred_peer};
 ghost use Rattle.model.specs.Layout.{window_of};
 ghost use Rattle.model.specs.Window.{with_mean};
-ghost use Rattle.model.specs.declared.Source.TheVariants.{From};
 ghost use Rattle.laws.specs.Sound.{Sound};
 ghost use Rattle.laws.specs.Whole.{Whole, Holds};
 ghost use Rattle.states.specs.Fits.{cold_fits};
 
 use lent_pace::Turn;
-use model::{Fanout, Front, Hash, Height, Source};
+use model::{Entry, Fanout, Hash};
 
 // ---- deliveries
 
@@ -46,18 +45,17 @@ pub fn record_delivery_progress(words: &mut [u64], source: u64, h: Hash, height:
 }
 
 // `progress_by`: a delivery without a pending height is no front.
-pub fn progress_by(words: &mut [u64], height: Height, source: u64, h: Hash, clock: u64)
+pub fn progress_by(words: &mut [u64], height: Option<u64>, source: u64, h: Hash, clock: u64)
     requires { Whole words.old × Sound clock (window_of words.old) }
     ensures { Holds (progress_by height source h clock (window_of words.old)) words.new }
 {
-    match height {
-        Height::Unknown => {}
-        Height::Known(n) => record_delivery_progress(words, source, h, n, clock),
+    if let Some(n) = height {
+        record_delivery_progress(words, source, h, n, clock);
     }
 }
 
 // The mean moves by `next_mean`, whether the body was asked for (then `front` is its entry) or not.
-pub fn move_mean(words: &mut [u64], front: Front, bytes: u64)
+pub fn move_mean(words: &mut [u64], front: Option<Entry>, bytes: u64)
     requires { Whole words.old × (((window_of words.old).mean ≤ max_estimate) × (bytes ≤ max_body)) }
     ensures { Holds (with_mean (next_mean (window_of words.old).mean bytes) (window_of words.old)) words.new }
 {
@@ -70,7 +68,7 @@ pub fn move_mean(words: &mut [u64], front: Front, bytes: u64)
 
 fn rejected_from(words: &mut [u64], source: u64, h: Hash)
     requires { Whole words.old × cold_fits (window_of words.old).races.cold }
-    ensures { Holds (rejected_by (From source) h (window_of words.old)) words.new }
+    ensures { Holds (rejected_by (Some source) h (window_of words.old)) words.new }
 {
     let c = state::get_cold(words);
     let x = rules::unless_front(h, source, c);
@@ -79,13 +77,12 @@ fn rejected_from(words: &mut [u64], source: u64, h: Hash)
 }
 
 // `rejected_by`: what a rejection changes before the entry goes; a missing source changes nothing.
-pub fn rejected_by(words: &mut [u64], source: Source, h: Hash)
+pub fn rejected_by(words: &mut [u64], source: Option<u64>, h: Hash)
     requires { Whole words.old × cold_fits (window_of words.old).races.cold }
     ensures { Holds (rejected_by source h (window_of words.old)) words.new }
 {
-    match source {
-        Source::Missing => {}
-        Source::From(s) => rejected_from(words, s, h),
+    if let Some(s) = source {
+        rejected_from(words, s, h);
     }
 }
 
@@ -119,5 +116,5 @@ pub fn clear_preferred_peer(words: &mut [u64])
     requires { Whole words.old }
     ensures { Holds (clear_preferred_peer (window_of words.old)) words.new }
 {
-    state::set_preferred(words, Source::Missing);
+    state::set_preferred(words, None);
 }

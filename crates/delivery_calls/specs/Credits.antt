@@ -1,5 +1,5 @@
 -- A credit step by step. Assumes nothing.
-use Rattle.std.specs.Prelude.{◌≡◌, ℕ, length}
+use Rattle.std.specs.Prelude.{◌≡◌, ℕ, length, Option}
 use Rattle.std.proofs.Math.Path.{sym, ap}
 use Rattle.std.proofs.Common.{◌∙◌}
 use mathlib.Core.List.{List, []}
@@ -7,7 +7,6 @@ use Rattle.model.specs.Races.{resolve_cold_front_delivery, record_prefix_probe_d
 use Rattle.model.specs.Calls.{body_noted, credit_duplicate_delivery, progress_by, credit_delivery_from}
 use Rattle.model.specs.Window.{Window, Step, and_then}
 use Rattle.model.specs.declared.Hash.{Hash}
-use Rattle.model.specs.declared.Height.{Height}
 use Rattle.laws.specs.Sound.{Sound}
 use Rattle.laws.specs.Lets.{lets_then}
 use Rattle.laws.proofs.RacesKept.{resolve_lets, probe_lets}
@@ -36,7 +35,7 @@ module _ (h : Hash) (source clock : ℕ) (w : Window) where
 abbrev pub begun : Hash → ℕ → ℕ → Window → Window
 begun h source clock w = credit_duplicate_delivery h source (body_noted source clock w)
 
-module _ (h : Hash) (source : ℕ) (height : Height) (clock : ℕ) (w v₁ : Window) (e₁ : v₁ ≡ begun h source clock w) where
+module _ (h : Hash) (source : ℕ) (height : Option ℕ) (clock : ℕ) (w v₁ : Window) (e₁ : v₁ ≡ begun h source clock w) where
   pub credit_window : (v₂ : Window) → v₂ ≡ (raced h source clock v₁).window → progress_by height source h clock v₂ ≡ (credit_delivery_from h source height clock w).window
   unfolding credit_delivery_from
   credit_window v₂ e₂ = ap (progress_by height source h clock) (e₂ ∙ ap (λ (v : Window). (raced h source clock v).window) e₁)

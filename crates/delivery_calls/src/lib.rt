@@ -10,14 +10,14 @@ ghost use Rattle.model.specs.Races.{resolve_cold_front_delivery, record_prefix_p
 ghost use Rattle.model.specs.Calls.{credit_delivery_from, credit_by, mark_received_from};
 ghost use Rattle.model.specs.Refusals.{source_ok};
 ghost use Rattle.model.specs.Perform.{says, height_values};
-ghost use Rattle.model.specs.Says.{received_says};
+ghost use Rattle.model.specs.Says.{received_answer};
 ghost use Rattle.model.specs.Window.{and_then};
 ghost use Rattle.laws.specs.Sound.{Sound, SoundSource};
 ghost use Rattle.laws.specs.Whole.{Whole, Holds};
 ghost use Rattle.report_words.specs.Report.{releases_of};
 ghost use Rattle.delivery_calls.specs.Receives.{delivered, taken};
 
-use model::{Front, Hash, Height, Received, Source};
+use model::{Entry, Hash, Received};
 
 // ---- credit
 
@@ -41,7 +41,7 @@ pub fn credit_delivery_from(
     gone: &mut [u64],
     h: Hash,
     source: u64,
-    height: Height,
+    height: Option<u64>,
     clock: u64,
 ) -> usize
     requires { Whole words.old × (Sound clock (window_of words.old) × ((length gone.old ≡ 2304) × (source ≤ max_seat))) }
@@ -59,9 +59,9 @@ pub fn credit_delivery_from(
 fn credit_by(
     words: &mut [u64],
     gone: &mut [u64],
-    source: Source,
+    source: Option<u64>,
     h: Hash,
-    height: Height,
+    height: Option<u64>,
     clock: u64,
 ) -> usize
     requires { Whole words.old × (Sound clock (window_of words.old) × ((length gone.old ≡ 2304) × SoundSource source)) }
@@ -70,19 +70,19 @@ fn credit_by(
         × (releases_of result gone.new ≡ (credit_by source h height clock (window_of words.old)).gone) }
 {
     match source {
-        Source::Missing => 0,
-        Source::From(s) => credit_delivery_from(words, gone, h, s, height, clock),
+        None => 0,
+        Some(s) => credit_delivery_from(words, gone, h, s, height, clock),
     }
 }
 
 // ---- a body
 
 // The delivered entry, where there is one, before the n releases that the credit left. Most often it left none, and nothing has to move.
-fn put_delivered(gone: &mut [u64], front: Front, n: usize) -> usize
+fn put_delivered(gone: &mut [u64], front: Option<Entry>, n: usize) -> usize
     requires { (length gone.old ≡ 2304) × (length (delivered front) + n ≤ 256) }
     ensures { releases_of result gone.new ≡ delivered front ++ releases_of n gone.old }
 {
-    let Front::At(e) = front else {
+    let Some(e) = front else {
         return n;
     };
     if n == 0 {
@@ -99,8 +99,8 @@ fn take_delivered(
     words: &mut [u64],
     gone: &mut [u64],
     h: Hash,
-    front: Front,
-    source: Source,
+    front: Option<Entry>,
+    source: Option<u64>,
     clock: u64,
 ) -> usize
     requires { Whole words.old × (Sound clock (window_of words.old) × ((length gone.old ≡ 2304) × (SoundSource source × (front ≡ found h (window_of words.old).queue.pending)))) }
@@ -114,12 +114,12 @@ fn take_delivered(
 }
 
 // What a delivery says: places filled, and the height where the block was pending.
-fn received(front: Front, places: u64) -> Received
-    ensures { received_says result ≡ says places (height_values front) }
+fn received(front: Option<Entry>, places: u64) -> Received
+    ensures { received_answer result ≡ says places (height_values front) }
 {
-    match front {
-        Front::Nothing => Received::Unasked(places),
-        Front::At(e) => Received::Expected(places, e.height),
+    Received {
+        places,
+        height: calls::height_of(front),
     }
 }
 
@@ -129,11 +129,11 @@ pub fn mark_received_from(
     gone: &mut [u64],
     h: Hash,
     bytes: u64,
-    source: Source,
+    source: Option<u64>,
     clock: u64,
 ) -> Received
     requires { Whole words.old × (Sound clock (window_of words.old) × ((length gone.old ≡ 2304) × ((bytes ≤ max_body) × (source_ok source ≡ true)))) }
-    ensures { (received_says result ≡ says (length (mark_received_from h bytes source clock (window_of words.old)).gone) (height_values (found h (window_of words.old).queue.pending)))
+    ensures { (received_answer result ≡ says (length (mark_received_from h bytes source clock (window_of words.old)).gone) (height_values (found h (window_of words.old).queue.pending)))
         × (length (mark_received_from h bytes source clock (window_of words.old)).gone ≤ 256)
         × (Holds (mark_received_from h bytes source clock (window_of words.old)).window words.new)
         × (releases_of (length (mark_received_from h bytes source clock (window_of words.old)).gone) gone.new ≡ (mark_received_from h bytes source clock (window_of words.old)).gone) }

@@ -73,11 +73,8 @@ fn play(
     text: &[u8],
 ) -> io::Result<Host> {
     let mut host = h;
-    let mut at: usize = 0;
-    while at < text.len() {
-        let end = script::line_end(text, at);
-        host = turn(rt, words, hashes, heights, staged, host, &text[at..end])?;
-        at = end;
+    for line in script::lines_of(text) {
+        host = turn(rt, words, hashes, heights, staged, host, line)?;
     }
     Ok(host)
 }
@@ -212,10 +209,8 @@ fn entry(rt: &impl Print, k: usize, blocks: u64, bytes: u64) -> io::Result<()> {
 }
 
 fn page(rt: &impl Print, blocks: [u64; 13], bytes: [u64; 13]) -> io::Result<()> {
-    let mut k: usize = 0;
-    while k < 13 {
-        entry(rt, k, blocks[k], bytes[k])?;
-        k += 1;
+    for (k, (in_blocks, in_bytes)) in blocks.iter().zip(bytes.iter()).enumerate() {
+        entry(rt, k, *in_blocks, *in_bytes)?;
     }
     Ok(())
 }

@@ -14,7 +14,7 @@ ghost use Rattle.laws.specs.Whole.{Whole};
 ghost use Rattle.records.specs.Places.{front_at};
 ghost use Rattle.expiry.specs.Late.{late, LateBy, Seated};
 
-use model::{Front, at};
+use model::{Entry, at};
 
 // `effective_owner_timeout` by the window's own active count.
 pub fn owner_timeout(words: &[u64]) -> u64
@@ -54,9 +54,7 @@ fn lowest_late(words: &[u64], count: usize, timeout: u64, clock: u64) -> usize
     let limit = time::expiry_limit(clock, timeout);
     let mut best = count;
     let mut low = u64::MAX;
-    let mut i = count;
-    while 0 < i {
-        i -= 1;
+    for i in (0..count).rev() {
         let g = words[i + at::HEIGHTS];
         if g <= low {
             if is_late(words, i, limit) {
@@ -69,7 +67,7 @@ fn lowest_late(words: &[u64], count: usize, timeout: u64, clock: u64) -> usize
 }
 
 // `lowest_expired`
-pub fn lowest_expired(words: &[u64], clock: u64) -> Front
+pub fn lowest_expired(words: &[u64], clock: u64) -> Option<Entry>
     requires { Whole words.now × Sound clock (window_of words.now) }
     ensures { result ≡ lowest_expired clock (window_of words.now) }
 {
@@ -78,7 +76,7 @@ pub fn lowest_expired(words: &[u64], clock: u64) -> Front
     let at = lowest_late(words, n, timeout, clock);
     if at < n {
         let e = state_queue::entry_at(words, at);
-        return Front::At(e);
+        return Some(e);
     }
-    Front::Nothing
+    None
 }

@@ -1,5 +1,5 @@
 -- What an owned fetch comes to, by the code's tests. Assumes nothing.
-use Rattle.std.specs.Prelude.{◌≡◌, refl, Bool, true, false, cond, not, ◌||◌, List, [], ◌∷◌, ℕ, suc, ◌+◌, ◌≤◌, ◌<◌, length}
+use Rattle.std.specs.Prelude.{◌≡◌, refl, Bool, true, false, cond, not, ◌||◌, List, [], ◌∷◌, ℕ, suc, ◌+◌, ◌≤◌, ◌<◌, length, None, Some, Option}
 use Rattle.std.proofs.Common.{sym, ap, arith}
 use Rattle.std.proofs.Math.Path.{subst}
 use borrow.Author.Tests.{le-leb, lt-leb}
@@ -10,20 +10,18 @@ use Rattle.model.specs.Capacity.{has_request_capacity, effective_peer_inflight}
 use Rattle.model.specs.Calls.{Ask, Fetching, held, staged, asked, no_capacity, owned_fetch, fetched, mark_owned_fetch}
 use Rattle.model.specs.Layout.{window_of, source_word}
 use Rattle.model.specs.Perform.{says, fetch_values}
-use Rattle.model.specs.Says.{fetch_says}
+use Rattle.model.specs.Says.{fetch_answer}
 use Rattle.model.specs.declared.Hash.{Hash}
 use Rattle.model.specs.declared.Fetch.{Fetch}
-use Rattle.model.specs.declared.Source.{Source}
-use Rattle.model.specs.declared.Source.TheVariants.{Missing, From}
 use Rattle.laws.specs.RequestsKept.{Asking}
 use Rattle.laws.specs.Sound.{Sound, SoundSource}
 use Rattle.laws.specs.Whole.{Holds}
 use Rattle.requests.specs.Puts.{Ready, ready_sound}
 
 -- a sound seat can be written
-pub source_writes : (s : Source) → SoundSource s → source_word s ≤ 256
-source_writes Missing h = omega arith
-source_writes (From s) h = omega arith
+pub source_writes : (s : Option ℕ) → SoundSource s → source_word s ≤ 256
+source_writes None h = omega arith
+source_writes (Some s) h = omega arith
 
 -- the one ask of an owned fetch
 abbrev pub ask_of : Hash → ℕ → List Ask
@@ -62,11 +60,11 @@ module _ (owner : ℕ) (h : Hash) (is_staged : Bool) (bytes n : ℕ) (w : Window
       is_over k l = simp (a, b, k, le-leb (effective_peer_inflight w) (pending_count_for owner w.queue.pending) l)
 
   -- what the contract says, of the case that it came to
-  pub fetch_done : (height now : ℕ) (ws : List ℕ) (f : Fetching) (r : Fetch) → comes_to f → fetch_says r ≡ says 0 (fetch_values f) → Holds (fetched f owner h height now w) ws
-      → (fetch_says r ≡ says 0 (fetch_values (owned_fetch owner h is_staged bytes n w))) × Holds (mark_owned_fetch owner h height is_staged bytes n now w) ws
+  pub fetch_done : (height now : ℕ) (ws : List ℕ) (f : Fetching) (r : Fetch) → comes_to f → fetch_answer r ≡ says 0 (fetch_values f) → Holds (fetched f owner h height now w) ws
+      → (fetch_answer r ≡ says 0 (fetch_values (owned_fetch owner h is_staged bytes n w))) × Holds (mark_owned_fetch owner h height is_staged bytes n now w) ws
   unfolding mark_owned_fetch
   fetch_done height now ws f r e s k =
-      (subst (λ (x : Fetching). fetch_says r ≡ says 0 (fetch_values x)) (sym e) s, subst (λ (x : Fetching). Holds (fetched x owner h height now w) ws) (sym e) k)
+      (subst (λ (x : Fetching). fetch_answer r ≡ says 0 (fetch_values x)) (sym e) s, subst (λ (x : Fetching). Holds (fetched x owner h height now w) ws) (sym e) k)
 
 -- a test on what was read is one on the window
 pub less_so : {a b c d : ℕ} → a ≡ b → c ≡ d → a < c → b < d

@@ -5,7 +5,7 @@ ghost use Rattle.std.specs.Prelude.{◌≡◌, ◌≤◌};
 ghost use Rattle.model.specs.Numbers.{max_seat};
 ghost use Rattle.model.specs.Calls.{asked, fetched, mark_owned_fetch, owned_fetch};
 ghost use Rattle.model.specs.Perform.{says, fetch_values};
-ghost use Rattle.model.specs.Says.{fetch_says};
+ghost use Rattle.model.specs.Says.{fetch_answer};
 ghost use Rattle.model.specs.Layout.{window_of};
 ghost use Rattle.laws.specs.RequestsKept.{Asking};
 ghost use Rattle.laws.specs.Sound.{Sound};
@@ -37,7 +37,7 @@ pub fn mark_owned_fetch(
     clock: u64,
 ) -> Fetch
     requires { Whole words.old × (Sound clock (window_of words.old) × (owner ≤ max_seat)) }
-    ensures { (fetch_says result ≡ says 0 (fetch_values (owned_fetch owner h is_staged byte_headroom count_headroom (window_of words.old))))
+    ensures { (fetch_answer result ≡ says 0 (fetch_values (owned_fetch owner h is_staged byte_headroom count_headroom (window_of words.old))))
         × Holds (mark_owned_fetch owner h height is_staged byte_headroom count_headroom clock (window_of words.old)) words.new }
 {
     if queries::contains_pending(words, h) {

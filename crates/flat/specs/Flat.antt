@@ -1,15 +1,8 @@
 -- An answer as a C struct: the refusal's number first, 0 for none; then its places and values by name, 0 where there are none. Definitions only.
-use Rattle.std.specs.Prelude.{ℕ, Bool, true, false, cond, List, [], ◌∷◌, get_or, drop, replicate, eqb}
+use Rattle.std.specs.Prelude.{ℕ, cond, List, [], ◌∷◌, get_or, drop, replicate, eqb}
 use Rattle.model.specs.Lists.{pad}
 use Rattle.model.specs.Hash.{hash}
 use Rattle.model.specs.Perform.{Answer, refused, says}
-use Rattle.model.specs.declared.Hash.{Hash}
-use Rattle.model.specs.declared.Source.{Source}
-use Rattle.model.specs.declared.Source.TheVariants.{Missing, From}
-use Rattle.model.specs.declared.Height.{Height}
-use Rattle.model.specs.declared.Height.TheVariants.{Unknown, Known}
-use Rattle.model.specs.declared.Sought.{Sought}
-use Rattle.model.specs.declared.Sought.TheVariants.{NoHash, Exactly}
 use Rattle.flat.specs.declared.FlatNumber.{FlatNumber}
 use Rattle.flat.specs.declared.FlatPair.{FlatPair}
 use Rattle.flat.specs.declared.FlatPerhaps.{FlatPerhaps}
@@ -86,17 +79,3 @@ abbrev pub plan_flat : Answer → FlatPlan
 plan_flat (refused n) = record { refused = n; present = 0; owner = 0; count = 0; end_height = 0; hashes = replicate 32 0 }
 plan_flat (says places v) =
     record { refused = 0; present = present v; owner = value v 0; count = value v 1; end_height = value v 2; hashes = pad 32 0 (drop 3 v) }
-
--- ---- what may be missing, by a flag beside it
-
-abbrev pub source_if : Bool → ℕ → Source
-source_if true s = From s
-source_if false s = Missing
-
-abbrev pub height_if : Bool → ℕ → Height
-height_if true n = Known n
-height_if false n = Unknown
-
-abbrev pub sought_if : Bool → Hash → Sought
-sought_if true h = Exactly h
-sought_if false h = NoHash

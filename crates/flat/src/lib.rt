@@ -2,27 +2,22 @@
 #![tactic(auto)]
 
 ghost use Rattle.std.specs.Prelude.{◌≡◌};
-ghost use Rattle.model.specs.Says.{accepted_says, let_go_says, requested_says, fetch_says, received_says, rejected_says, blocked_says, next_request_says, truth_says, number_says, pair_says, perhaps_says, perhaps_pair_says};
-ghost use Rattle.flat.specs.Flat.{done_flat, number_flat, pair_flat, perhaps_flat, perhaps_pair_flat, gone_flat, received_flat, rejected_flat, next_request_flat, blocked_flat, source_if, height_if, sought_if};
+ghost use Rattle.model.specs.Says.{accepted_says, let_go_says, fetch_says, received_says, rejected_says, blocked_says, next_request_says, truth_says, number_says, pair_says, perhaps_says, perhaps_pair_says};
+ghost use Rattle.flat.specs.Flat.{done_flat, number_flat, pair_flat, perhaps_flat, perhaps_pair_flat, gone_flat, received_flat, rejected_flat, next_request_flat, blocked_flat};
 ghost use Rattle.flat.specs.Plans.{plan_numbers};
-ghost use Rattle.heights.specs.Heights.{wide};
 
-use heights::Height32;
-use model::{
-    Accepted, Blocked, Fetch, Hash, LetGo, NextRequest, Number, Pair, Perhaps, PerhapsPair, Plan,
-    Received, Rejected, Requested, Sought, Source, Truth,
-};
+use model::{Blocked, Fetch, Hash, NextRequest, Received, Refusal, Rejected};
 use plans::PlanAnswer;
 
 #[repr(C)]
-#[derive(Clone, Copy)]
+#[derive(Clone, Copy, Default)]
 pub struct FlatNumber {
     pub refused: u64,
     pub value: u64,
 }
 
 #[repr(C)]
-#[derive(Clone, Copy)]
+#[derive(Clone, Copy, Default)]
 pub struct FlatPair {
     pub refused: u64,
     pub first: u64,
@@ -30,7 +25,7 @@ pub struct FlatPair {
 }
 
 #[repr(C)]
-#[derive(Clone, Copy)]
+#[derive(Clone, Copy, Default)]
 pub struct FlatPerhaps {
     pub refused: u64,
     pub present: u64,
@@ -38,7 +33,7 @@ pub struct FlatPerhaps {
 }
 
 #[repr(C)]
-#[derive(Clone, Copy)]
+#[derive(Clone, Copy, Default)]
 pub struct FlatPerhapsPair {
     pub refused: u64,
     pub present: u64,
@@ -47,14 +42,14 @@ pub struct FlatPerhapsPair {
 }
 
 #[repr(C)]
-#[derive(Clone, Copy)]
+#[derive(Clone, Copy, Default)]
 pub struct FlatGone {
     pub refused: u64,
     pub places: u64,
 }
 
 #[repr(C)]
-#[derive(Clone, Copy)]
+#[derive(Clone, Copy, Default)]
 pub struct FlatReceived {
     pub refused: u64,
     pub places: u64,
@@ -63,7 +58,7 @@ pub struct FlatReceived {
 }
 
 #[repr(C)]
-#[derive(Clone, Copy)]
+#[derive(Clone, Copy, Default)]
 pub struct FlatRejected {
     pub refused: u64,
     pub places: u64,
@@ -71,7 +66,7 @@ pub struct FlatRejected {
 }
 
 #[repr(C)]
-#[derive(Clone, Copy)]
+#[derive(Clone, Copy, Default)]
 pub struct FlatNextRequest {
     pub refused: u64,
     pub places: u64,
@@ -101,12 +96,12 @@ pub struct FlatPlan {
     pub hashes: [u64; 32],
 }
 
-pub fn of_accepted(a: Accepted) -> u64
+pub fn of_accepted(a: Result<(), Refusal>) -> u64
     ensures { result ≡ done_flat (accepted_says a) }
 {
     match a {
-        Accepted::Refused(n) => n,
-        Accepted::Done => 0,
+        Err(r) => u64::from(r),
+        Ok(()) => 0,
     }
 }
 
@@ -116,194 +111,155 @@ fn valued(refused: u64, value: u64) -> FlatNumber
     FlatNumber { refused, value }
 }
 
-pub fn of_number(a: Number) -> FlatNumber
+pub fn of_number(a: Result<u64, Refusal>) -> FlatNumber
     ensures { result ≡ number_flat (number_says a) }
 {
     match a {
-        Number::Refused(n) => valued(n, 0),
-        Number::Is(x) => valued(0, x),
+        Err(r) => valued(u64::from(r), 0),
+        Ok(x) => valued(0, x),
     }
 }
 
-pub fn of_truth(a: Truth) -> FlatNumber
+pub fn of_truth(a: Result<bool, Refusal>) -> FlatNumber
     ensures { result ≡ number_flat (truth_says a) }
 {
     match a {
-        Truth::Refused(n) => valued(n, 0),
-        Truth::Denied => valued(0, 0),
-        Truth::Affirmed => valued(0, 1),
+        Err(r) => valued(u64::from(r), 0),
+        Ok(b) => valued(0, u64::from(b)),
     }
 }
 
-pub fn of_requested(a: Requested) -> FlatNumber
-    ensures { result ≡ number_flat (requested_says a) }
-{
-    match a {
-        Requested::Refused(n) => valued(n, 0),
-        Requested::Full => valued(0, 0),
-        Requested::Room => valued(0, 1),
-    }
-}
-
-pub fn of_fetch(a: Fetch) -> FlatNumber
+pub fn of_fetch(a: Result<Fetch, Refusal>) -> FlatNumber
     ensures { result ≡ number_flat (fetch_says a) }
 {
     match a {
-        Fetch::Refused(n) => valued(n, 0),
-        Fetch::Held => valued(0, 0),
-        Fetch::Staged => valued(0, 1),
-        Fetch::Asked => valued(0, 2),
-        Fetch::NoCapacity => valued(0, 3),
+        Err(r) => valued(u64::from(r), 0),
+        Ok(Fetch::Held) => valued(0, 0),
+        Ok(Fetch::Staged) => valued(0, 1),
+        Ok(Fetch::Asked) => valued(0, 2),
+        Ok(Fetch::NoCapacity) => valued(0, 3),
     }
 }
 
-pub fn of_pair(a: Pair) -> FlatPair
+pub fn of_pair(a: Result<(u64, u64), Refusal>) -> FlatPair
     ensures { result ≡ pair_flat (pair_says a) }
 {
     match a {
-        Pair::Refused(n) => FlatPair {
-            refused: n,
-            first: 0,
-            second: 0,
+        Err(r) => FlatPair {
+            refused: u64::from(r),
+            ..FlatPair::default()
         },
-        Pair::Both(x, y) => FlatPair {
-            refused: 0,
-            first: x,
-            second: y,
+        Ok((first, second)) => FlatPair {
+            first,
+            second,
+            ..FlatPair::default()
         },
     }
 }
 
-pub fn of_perhaps(a: Perhaps) -> FlatPerhaps
+pub fn of_perhaps(a: Result<Option<u64>, Refusal>) -> FlatPerhaps
     ensures { result ≡ perhaps_flat (perhaps_says a) }
 {
     match a {
-        Perhaps::Refused(n) => FlatPerhaps {
-            refused: n,
-            present: 0,
-            value: 0,
+        Err(r) => FlatPerhaps {
+            refused: u64::from(r),
+            ..FlatPerhaps::default()
         },
-        Perhaps::Absent => FlatPerhaps {
-            refused: 0,
-            present: 0,
-            value: 0,
-        },
-        Perhaps::Present(x) => FlatPerhaps {
-            refused: 0,
+        Ok(None) => FlatPerhaps::default(),
+        Ok(Some(value)) => FlatPerhaps {
             present: 1,
-            value: x,
+            value,
+            ..FlatPerhaps::default()
         },
     }
 }
 
-pub fn of_perhaps_pair(a: PerhapsPair) -> FlatPerhapsPair
+pub fn of_perhaps_pair(a: Result<Option<(u64, u64)>, Refusal>) -> FlatPerhapsPair
     ensures { result ≡ perhaps_pair_flat (perhaps_pair_says a) }
 {
     match a {
-        PerhapsPair::Refused(n) => FlatPerhapsPair {
-            refused: n,
-            present: 0,
-            first: 0,
-            second: 0,
+        Err(r) => FlatPerhapsPair {
+            refused: u64::from(r),
+            ..FlatPerhapsPair::default()
         },
-        PerhapsPair::Neither => FlatPerhapsPair {
-            refused: 0,
-            present: 0,
-            first: 0,
-            second: 0,
-        },
-        PerhapsPair::Together(x, y) => FlatPerhapsPair {
-            refused: 0,
+        Ok(None) => FlatPerhapsPair::default(),
+        Ok(Some((first, second))) => FlatPerhapsPair {
             present: 1,
-            first: x,
-            second: y,
+            first,
+            second,
+            ..FlatPerhapsPair::default()
         },
     }
 }
 
-pub fn of_let_go(a: LetGo) -> FlatGone
+pub fn of_let_go(a: Result<u64, Refusal>) -> FlatGone
     ensures { result ≡ gone_flat (let_go_says a) }
 {
     match a {
-        LetGo::Refused(n) => FlatGone {
-            refused: n,
-            places: 0,
+        Err(r) => FlatGone {
+            refused: u64::from(r),
+            ..FlatGone::default()
         },
-        LetGo::Gone(n) => FlatGone {
-            refused: 0,
-            places: n,
+        Ok(places) => FlatGone {
+            places,
+            ..FlatGone::default()
         },
     }
 }
 
-pub fn of_received(a: Received) -> FlatReceived
+pub fn of_received(a: Result<Received, Refusal>) -> FlatReceived
     ensures { result ≡ received_flat (received_says a) }
 {
     match a {
-        Received::Refused(n) => FlatReceived {
-            refused: n,
-            places: 0,
-            present: 0,
-            height: 0,
+        Err(r) => FlatReceived {
+            refused: u64::from(r),
+            ..FlatReceived::default()
         },
-        Received::Unasked(n) => FlatReceived {
-            refused: 0,
-            places: n,
-            present: 0,
-            height: 0,
-        },
-        Received::Expected(n, x) => FlatReceived {
-            refused: 0,
-            places: n,
-            present: 1,
-            height: x,
+        Ok(r) => FlatReceived {
+            places: r.places,
+            present: u64::from(r.height.is_some()),
+            height: r.height.unwrap_or(0),
+            ..FlatReceived::default()
         },
     }
 }
 
-pub fn of_rejected(a: Rejected) -> FlatRejected
+pub fn of_rejected(a: Result<Rejected, Refusal>) -> FlatRejected
     ensures { result ≡ rejected_flat (rejected_says a) }
 {
     match a {
-        Rejected::Refused(n) => FlatRejected {
-            refused: n,
-            places: 0,
-            released: 0,
+        Err(r) => FlatRejected {
+            refused: u64::from(r),
+            ..FlatRejected::default()
         },
-        Rejected::ReleasedPending(n) => FlatRejected {
-            refused: 0,
-            places: n,
+        Ok(Rejected::ReleasedPending(places)) => FlatRejected {
+            places,
             released: 1,
+            ..FlatRejected::default()
         },
-        Rejected::DiscardedUnsolicited => FlatRejected {
-            refused: 0,
-            places: 0,
-            released: 0,
-        },
+        Ok(Rejected::DiscardedUnsolicited) => FlatRejected::default(),
     }
 }
 
-pub fn of_next_request(a: NextRequest) -> FlatNextRequest
+pub fn of_next_request(a: Result<NextRequest, Refusal>) -> FlatNextRequest
     ensures { result ≡ next_request_flat (next_request_says a) }
 {
     match a {
-        NextRequest::Refused(n) => FlatNextRequest {
-            refused: n,
-            places: 0,
-            count: 0,
-            next_height: 0,
+        Err(r) => FlatNextRequest {
+            refused: u64::from(r),
+            ..FlatNextRequest::default()
         },
-        NextRequest::NoRequest(n) => FlatNextRequest {
-            refused: 0,
-            places: n,
-            count: 0,
-            next_height: 0,
-        },
-        NextRequest::Request(n, x, y) => FlatNextRequest {
-            refused: 0,
-            places: n,
-            count: x,
-            next_height: y,
+        Ok(n) => match n.request {
+            None => FlatNextRequest {
+                places: n.places,
+                ..FlatNextRequest::default()
+            },
+            Some(r) => FlatNextRequest {
+                places: n.places,
+                count: r.count,
+                next_height: r.next_height,
+                ..FlatNextRequest::default()
+            },
         },
     }
 }
@@ -318,103 +274,60 @@ fn decided(refused: u64, decision: u64, owner: u64) -> FlatBlocked
         d: 0,
     };
     FlatBlocked {
-        refused: refused,
-        decision: decision,
-        owner: owner,
+        refused,
+        decision,
+        owner,
         height: 0,
         suppressed: 0,
         hash: none,
     }
 }
 
-pub fn of_blocked(a: Blocked) -> FlatBlocked
+pub fn of_blocked(a: Result<Blocked, Refusal>) -> FlatBlocked
     ensures { result ≡ blocked_flat (blocked_says a) }
 {
     match a {
-        Blocked::Refused(n) => decided(n, 0, 0),
-        Blocked::NoDecision => decided(0, 0, 0),
-        Blocked::BlameStaller(owner) => decided(0, 1, owner),
-        Blocked::BlamePendingTimeout(owner) => decided(0, 2, owner),
-        Blocked::EvictStaged(height, h, suppressed) => {
-            FlatBlocked {
-                refused: 0,
-                decision: 3,
-                owner: 0,
-                height: height,
-                suppressed: suppressed,
-                hash: h,
-            }
-        }
-        Blocked::HedgeColdFront(owner, h) => {
-            FlatBlocked {
-                refused: 0,
-                decision: 4,
-                owner: owner,
-                height: 0,
-                suppressed: 0,
-                hash: h,
-            }
-        }
+        Err(r) => decided(u64::from(r), 0, 0),
+        Ok(Blocked::NoDecision) => decided(0, 0, 0),
+        Ok(Blocked::BlameStaller(owner)) => decided(0, 1, owner),
+        Ok(Blocked::BlamePendingTimeout(owner)) => decided(0, 2, owner),
+        Ok(Blocked::EvictStaged(height, hash, suppressed)) => FlatBlocked {
+            height,
+            suppressed,
+            hash,
+            ..decided(0, 3, 0)
+        },
+        Ok(Blocked::HedgeColdFront(owner, hash)) => FlatBlocked {
+            hash,
+            ..decided(0, 4, owner)
+        },
     }
 }
 
 pub fn of_plan(a: PlanAnswer) -> FlatPlan
     ensures { result ≡ plan_numbers a.plan a.hashes }
 {
-    let plan = a.plan;
     let hashes = a.hashes;
-    match plan {
-        Plan::Refused(n) => FlatPlan {
-            refused: n,
-            present: 0,
-            owner: 0,
-            count: 0,
-            end_height: 0,
-            hashes: hashes,
+    let none = FlatPlan {
+        refused: 0,
+        present: 0,
+        owner: 0,
+        count: 0,
+        end_height: 0,
+        hashes,
+    };
+    match a.plan {
+        Err(r) => FlatPlan {
+            refused: u64::from(r),
+            ..none
         },
-        Plan::NoPlan => FlatPlan {
-            refused: 0,
-            present: 0,
-            owner: 0,
-            count: 0,
-            end_height: 0,
-            hashes: hashes,
-        },
-        Plan::Planned(owner, n, end) => FlatPlan {
-            refused: 0,
+        Ok(None) => none,
+        Ok(Some(p)) => FlatPlan {
             present: 1,
-            owner: owner,
-            count: n,
-            end_height: end,
-            hashes: hashes,
+            owner: p.owner,
+            count: p.count,
+            end_height: p.end_height,
+            ..none
         },
     }
-}
-
-// What may be missing, by a flag beside it.
-pub fn source_of(there: bool, s: u64) -> Source
-    ensures { result ≡ source_if there s }
-{
-    if there {
-        return Source::From(s);
-    }
-    Source::Missing
-}
-
-pub fn height_of(there: bool, n: u32) -> Height32
-    ensures { wide result ≡ height_if there n }
-{
-    if there {
-        return Height32::Known(n);
-    }
-    Height32::Unknown
-}
-
-pub fn sought_of(there: bool, h: Hash) -> Sought
-    ensures { result ≡ sought_if there h }
-{
-    if there {
-        return Sought::Exactly(h);
-    }
-    Sought::NoHash
 }

@@ -1,8 +1,7 @@
--- The laws that the writer's and the reader's proofs share: a part of what is lent that comes back, four places all written, numbers of so many bytes. Assumes nothing.
+-- The laws that the writer's and the reader's proofs share: a part of what is lent that comes back, four places all written. Assumes nothing.
 use mathlib.Core.Path.{◌≡◌, refl, sym, ap, ◌∙◌}
 use mathlib.Core.List.{List, [], ◌∷◌, ◌++◌, append_assoc}
-use Prim.Native.Nat.{ℕ, suc, ◌+◌, ◌*◌, ◌^◌, ◌≤◌, ◌<◌}
-use native.Mathlib.Nat.{pow-suc, pow-le-pow_right}
+use Prim.Native.Nat.{ℕ, ◌+◌, ◌≤◌}
 use native.Mathlib.Omega.{arith}
 use lib.ListN.{length, take, drop, set, length-append, length-drop}
 use lib.Seq.{take_at, length-take-le}
@@ -26,11 +25,3 @@ all_of_four (a ∷ b ∷ []) x y z u e = absurd (omega arith)
 all_of_four (a ∷ b ∷ c ∷ []) x y z u e = absurd (omega arith)
 all_of_four (a ∷ b ∷ c ∷ d ∷ []) x y z u e = refl
 all_of_four (a ∷ b ∷ c ∷ d ∷ f ∷ l) x y z u e = absurd (omega arith)
-
--- a number of at most seven bytes leaves room for one more
-pub room : (i x : ℕ) → i < 8 → x < 256 ^ i → x < 72057594037927936
-room i x h e = omega (arith, e, pow-le-pow_right {n = 256} (omega arith) {i = i} {j = 7} (omega arith))
-
--- and with it is of one byte more
-pub one_more : (i x b : ℕ) → x < 256 ^ i → b < 256 → x * 256 + b < 256 ^ suc i
-one_more i x b e h = rw pow-suc (omega arith)

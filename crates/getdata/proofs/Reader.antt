@@ -4,9 +4,10 @@ use mathlib.Core.Bool.{Bool, true, false, cond, ◌&&◌}
 use mathlib.Core.List.{List, [], ◌∷◌, ◌++◌, append_assoc, append-nil}
 use Prim.Native.Nat.{ℕ, suc, ◌+◌, ◌*◌, ◌-◌, ◌≤◌, ◌<◌}
 use native.Mathlib.Omega.{arith}
+use Rattle.std.specs.Int.{w64, from_be_bytes}
 use lib.Dec.{eqb, leb, ltb}
-use lib.ListN.{length, get_or, take, drop, set, length-drop, drop_of_length-le}
-use lib.Seq.{take_all, drop-cons, drop-drop}
+use lib.ListN.{length, get_or, take, drop, set, length-drop}
+use lib.Seq.{take_all, drop-drop}
 use borrow.Author.Tests.{eq-eqb, ne_eqb, lt-ltb, le-leb, lt-leb}
 use Rattle.model.specs.Hash.{hash_words, hashes_words}
 use Rattle.model.specs.Perform.{refused, says}
@@ -156,19 +157,20 @@ module _ (p : List ℕ) where
           rw (s, le-leb (count_of p) 256 (omega (arith, c, few)), eq-eqb (length p) (count_width p + count_of p * 36) (omega (arith, c, d, h)))
           (e ∙ (λ k. all_blocks (c k) (f k)) ∙ ap (λ (x : ℕ). all_blocks (count_of p) (drop x p)) d)
 
--- ---- a word: i bytes are read
+-- ---- a word: what the library reads from eight bytes
 
-pub from_next : (bs : List ℕ) (i x b : ℕ) → i < length bs → b ≡ get_or bs i 0 → from_big_endian x (drop i bs) ≡ from_big_endian (x * 256 + b) (drop (i + 1) bs)
+pub word_is : (bs : List ℕ) → length bs ≡ 8 → from_be_bytes w64 bs ≡ from_big_endian 0 bs
 unfolding from_big_endian
-from_next bs i x b h e =
-    let next : suc i ≡ i + 1 = omega arith in
-    ap (from_big_endian x) (drop-cons bs i 0 h)
-    ∙ ap (λ (y : ℕ). from_big_endian (x * 256 + y) (drop (suc i) bs)) (sym e)
-    ∙ ap (λ (k : ℕ). from_big_endian (x * 256 + b) (drop k bs)) next
-
-pub from_end : (bs : List ℕ) (i x : ℕ) → length bs ≤ i → from_big_endian x (drop i bs) ≡ x
-unfolding from_big_endian
-from_end bs i x h = ap (from_big_endian x) (drop_of_length-le bs {i = i} h)
+word_is [] e = absurd (omega arith)
+word_is (a ∷ []) e = absurd (omega arith)
+word_is (a ∷ b ∷ []) e = absurd (omega arith)
+word_is (a ∷ b ∷ c ∷ []) e = absurd (omega arith)
+word_is (a ∷ b ∷ c ∷ d ∷ []) e = absurd (omega arith)
+word_is (a ∷ b ∷ c ∷ d ∷ f ∷ []) e = absurd (omega arith)
+word_is (a ∷ b ∷ c ∷ d ∷ f ∷ g ∷ []) e = absurd (omega arith)
+word_is (a ∷ b ∷ c ∷ d ∷ f ∷ g ∷ h ∷ []) e = absurd (omega arith)
+word_is (a ∷ b ∷ c ∷ d ∷ f ∷ g ∷ h ∷ k ∷ []) e = omega arith
+word_is (a ∷ b ∷ c ∷ d ∷ f ∷ g ∷ h ∷ k ∷ m ∷ l) e = absurd (omega arith)
 
 -- ---- the words of a hash
 

@@ -3,6 +3,7 @@
 use mathlib.Core.Path.{◌≡◌, refl, sym, ap, ◌∙◌}
 use mathlib.Core.List.{List, [], ◌∷◌, ◌++◌, append_assoc, append-nil}
 use Prim.Native.Nat.{ℕ, suc, ◌+◌, ◌-◌, ◌*◌, ◌/◌, ◌%◌, ◌≤◌, ◌<◌}
+use Rattle.std.specs.Int.{w64, to_be_bytes}
 use native.Mathlib.Omega.{arith}
 use lib.ListN.{length, take, drop, get_or, set, length-append, length-drop, drop_of_length-le}
 use lib.Seq.{take_all, take_at, drop_at, drop-drop, drop-cons, take-suc-set}
@@ -62,14 +63,17 @@ first_and_rest (a ∷ b ∷ c ∷ d ∷ l) x y e = absurd (omega arith)
 
 -- ---- the bytes of a number
 
--- the bytes of a word swapped: one more
-pub swap_next : (n k x r : ℕ) → big_endian (suc n) x ++ little_endian k r ≡ big_endian n (x / 256) ++ little_endian (suc k) (r * 256 + x % 256)
-unfolding big_endian little_endian
-swap_next n k x r =
-    let low : x % 256 ≡ (r * 256 + x % 256) % 256 = omega arith in
-    let high : r ≡ (r * 256 + x % 256) / 256 = omega arith in
-    append_assoc (big_endian n (x / 256)) (x % 256 ∷ []) (little_endian k r)
-    ∙ (λ i. big_endian n (x / 256) ++ (low i ∷ little_endian k (high i)))
+-- what the library makes of a word
+pub word_bytes : (x : ℕ) → to_be_bytes w64 x ≡ big_endian 8 x
+unfolding big_endian
+word_bytes x =
+    let e₂ : x / 65536 ≡ x / 256 / 256 = omega arith in
+    let e₃ : x / 16777216 ≡ x / 256 / 256 / 256 = omega arith in
+    let e₄ : x / 4294967296 ≡ x / 256 / 256 / 256 / 256 = omega arith in
+    let e₅ : x / 1099511627776 ≡ x / 256 / 256 / 256 / 256 / 256 = omega arith in
+    let e₆ : x / 281474976710656 ≡ x / 256 / 256 / 256 / 256 / 256 / 256 = omega arith in
+    let e₇ : x / 72057594037927936 ≡ x / 256 / 256 / 256 / 256 / 256 / 256 / 256 = omega arith in
+    λ i. e₇ i % 256 ∷ e₆ i % 256 ∷ e₅ i % 256 ∷ e₄ i % 256 ∷ e₃ i % 256 ∷ e₂ i % 256 ∷ x / 256 % 256 ∷ x % 256 ∷ []
 
 -- a number is stored from its low byte on: i bytes of n are
 pub store_start : (n x : ℕ) → little_endian n x ≡ little_endian (n - 0) x

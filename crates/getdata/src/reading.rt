@@ -6,7 +6,7 @@ ghost use Rattle.model.specs.Getdata.{from_big_endian, count_width, count_of, sh
 ghost use Rattle.model.specs.Getdata.{is_getdata, read_answer, read_left};
 
 use crate::wire;
-use model::{Number, sizes};
+use model::{Refusal, sizes};
 
 // A byte that is there, as a number.
 fn byte(bytes: &[u8], at: usize) -> u64
@@ -71,13 +71,11 @@ fn all_blocks(entries: &[u8], n: usize) -> bool
     requires { n * entry_size ≤ length entries.now }
     ensures { result ≡ all_blocks n entries.now }
 {
-    let mut i = 0;
-    while i < n {
+    for i in 0..n {
         let at = wire::ENTRY_SIZE * i;
         if !is_block(&entries[at..]) {
             return false;
         }
-        i += 1;
     }
     true
 }
@@ -105,14 +103,10 @@ fn word(bytes: &[u8]) -> u64
     requires { length bytes.now ≡ 8 }
     ensures { result ≡ from_big_endian 0 bytes.now }
 {
-    let mut x: u64 = 0;
-    let mut i = 0;
-    while i < wire::WORD_SIZE {
-        let b = byte(bytes, i);
-        x = x * 256 + b;
-        i += 1;
+    match bytes.as_array::<8>() {
+        Some(eight) => u64::from_be_bytes(*eight),
+        None => 0,
     }
-    x
 }
 
 // The four words of an entry's hash.
@@ -131,30 +125,28 @@ fn read_entries(entries: &[u8], hashes: &mut [u64], n: usize)
     requires { (n * entry_size ≤ length entries.now) × (length hashes.old ≡ n * 4) }
     ensures { hashes.new ≡ hashes_words (entry_hashes n entries.now) }
 {
-    let mut i = 0;
-    while i < n {
+    for i in 0..n {
         let at = wire::ENTRY_SIZE * i;
         let w = sizes::HASH_WORDS * i;
         let end = w + sizes::HASH_WORDS;
         read_hash(&entries[at..], &mut hashes[w..end]);
-        i += 1;
     }
 }
 
 // Reads a payload's hashes, four words each, to the beginning of the list. It answers the number of hashes.
 // Refused by 11 where the payload is not accepted, then by 10 where the list is too short for its hashes.
-pub fn read(payload: &[u8], hashes: &mut [u64]) -> Number
+pub fn read(payload: &[u8], hashes: &mut [u64]) -> Result<u64, Refusal>
     ensures { (number_says result ≡ read_answer payload.now hashes.old) × (hashes.new ≡ read_left payload.now hashes.old) }
 {
     if !is_getdata(payload) {
-        return Number::Refused(11);
+        return Err(Refusal::Payload);
     }
     let n = count_of(payload);
     let end = n * sizes::HASH_WORDS;
     if hashes.len() < end {
-        return Number::Refused(10);
+        return Err(Refusal::ShortOutput);
     }
     let start = count_width(payload);
     read_entries(&payload[start..], &mut hashes[..end], n);
-    Number::Is(n as u64)
+    Ok(n as u64)
 }

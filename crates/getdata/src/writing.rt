@@ -5,18 +5,16 @@ ghost use Rattle.model.specs.Says.{number_says};
 ghost use Rattle.model.specs.Getdata.{max_getdata, little_endian, big_endian, compact_size, entry_size, entry_bytes, entries_bytes, write_answer, write_left};
 
 use crate::wire;
-use model::{Number, sizes};
+use model::{Refusal, sizes};
 
 // A number in all of the lent bytes, the low one first.
 fn put_little_endian(out: &mut [u8], number: u64)
     ensures { out.new ≡ little_endian (length out.old) number }
 {
     let mut rest = number;
-    let mut i = 0;
-    while i < out.len() {
-        out[i] = (rest % 256) as u8;
-        rest = rest / 256;
-        i += 1;
+    for byte in out.iter_mut() {
+        *byte = (rest % 256) as u8;
+        rest /= 256;
     }
 }
 
@@ -42,29 +40,12 @@ fn put_count(out: &mut [u8], n: usize)
     }
 }
 
-// The word with its bytes in the other order: all of it is compiled to one instruction.
-fn swap_bytes(word: u64) -> u64
-    ensures { little_endian 8 result ≡ big_endian 8 word }
-{
-    let mut r: u64 = 0;
-    let mut rest = word;
-    let mut i: usize = 0;
-    while i < wire::WORD_SIZE {
-        r = r * 256 + rest % 256;
-        rest = rest / 256;
-        i += 1;
-    }
-    r
-}
-
-// A word, the high byte first. Its bytes are swapped, and then stored from the low one on: that is compiled to one store, and the same bytes without the swap to
-// eight.
+// A word, the high byte first: compiled to one store.
 fn put_word(out: &mut [u8], word: u64)
     requires { length out.old ≡ 8 }
     ensures { out.new ≡ big_endian 8 word }
 {
-    let swapped = swap_bytes(word);
-    put_little_endian(out, swapped);
+    out.copy_from_slice(&word.to_be_bytes());
 }
 
 fn put_entry(out: &mut [u8], a: u64, b: u64, c: u64, d: u64)
@@ -82,9 +63,7 @@ fn put_entries(out: &mut [u8], hashes: &[u64])
     requires { length out.old ≡ length (hashes_in hashes.now) * entry_size }
     ensures { out.new ≡ entries_bytes (hashes_in hashes.now) }
 {
-    let n = hashes.len() / sizes::HASH_WORDS;
-    let mut i = 0;
-    while i < n {
+    for i in 0..hashes.len() / sizes::HASH_WORDS {
         let at = wire::ENTRY_SIZE * i;
         let end = at + wire::ENTRY_SIZE;
         let w = sizes::HASH_WORDS * i;
@@ -95,25 +74,24 @@ fn put_entries(out: &mut [u8], hashes: &[u64])
             hashes[w + 2],
             hashes[w + 3],
         );
-        i += 1;
     }
 }
 
 // Writes the payload that asks for the listed blocks, four words a hash (what is past the last whole one is not read). It answers the number of bytes.
 // Refused by 8 where the list has more than 256 hashes, then by 10 where the lent bytes are too few.
-pub fn write(hashes: &[u64], out: &mut [u8]) -> Number
+pub fn write(hashes: &[u64], out: &mut [u8]) -> Result<u64, Refusal>
     ensures { (number_says result ≡ write_answer (hashes_in hashes.now) out.old) × (out.new ≡ write_left (hashes_in hashes.now) out.old) }
 {
     let n = hashes.len() / sizes::HASH_WORDS;
     if wire::MAX_GETDATA < n {
-        return Number::Refused(8);
+        return Err(Refusal::Many);
     }
     let start = compact_size_width(n);
     let end = start + wire::ENTRY_SIZE * n;
     if out.len() < end {
-        return Number::Refused(10);
+        return Err(Refusal::ShortOutput);
     }
     put_count(&mut out[..start], n);
     put_entries(&mut out[start..end], hashes);
-    Number::Is(end as u64)
+    Ok(end as u64)
 }

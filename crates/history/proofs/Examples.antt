@@ -1,6 +1,6 @@
 -- A closed run, by computation: opening, requests of two peers, a delivery, a sweep, a prefix race won, a refused call, a second opening; what the
 -- lent words come to, and the book. A short one with a plan. `after` and `written` open on their own `unfolding` lines all that a run uses, so that a check names just them.
-use Rattle.std.specs.Prelude.{◌≡◌, refl, false, List, [], ◌∷◌, map, ℕ, length, get_or, replicate}
+use Rattle.std.specs.Prelude.{◌≡◌, refl, false, List, [], ◌∷◌, map, ℕ, length, get_or, replicate, Some}
 use Rattle.std.proofs.Common.{ap, ◌∙◌, subst, inl, arith}
 use Rattle.std.specs.Int.Count.{ones}
 use Rattle.model.specs.Calls.{opened, asks_in, put, puts, raised, started, noted, mark_requested, credit_duplicate_delivery, record_delivery_progress, body_noted, credit_delivery_from, next_mean, mark_received_from}
@@ -24,7 +24,6 @@ use Rattle.model.specs.Window.{Window}
 use Rattle.model.specs.declared.Hash.{Hash}
 use Rattle.model.specs.declared.Release.{Release}
 use Rattle.model.specs.declared.Settings.{Settings}
-use Rattle.model.specs.declared.Source.TheVariants.{From}
 use Rattle.history.specs.Run.{Act, Done, Run, run, on_words}
 use Rattle.history.specs.Reports.{left_by, Answered}
 use Rattle.history.specs.Claim.{Claim}
@@ -78,14 +77,14 @@ unfolding act h
 calls =
     act (changes (requests 10 4 (0 ∷ 0 ∷ 0 ∷ 1 ∷ 0 ∷ 0 ∷ 0 ∷ 2 ∷ []) (50 ∷ 51 ∷ []) 52 0 0))
     ∷ act (changes (requests 20 3 (0 ∷ 0 ∷ 0 ∷ 3 ∷ []) (52 ∷ []) 53 0 0))
-    ∷ act (changes (receives 30 (h 1) 1000000 (From 4)))
+    ∷ act (changes (receives 30 (h 1) 1000000 (Some 4)))
     ∷ act (changes (expires 915))
     ∷ act (changes (requests 920 3 (0 ∷ 0 ∷ 0 ∷ 4 ∷ 0 ∷ 0 ∷ 0 ∷ 5 ∷ 0 ∷ 0 ∷ 0 ∷ 6 ∷ 0 ∷ 0 ∷ 0 ∷ 7 ∷ 0 ∷ 0 ∷ 0 ∷ 8 ∷ []) (56 ∷ 57 ∷ 53 ∷ 54 ∷ 55 ∷ []) 58 0 0))
     ∷ act (changes (confirms_probe 925 3 (0 ∷ 0 ∷ 0 ∷ 3 ∷ 0 ∷ 0 ∷ 0 ∷ 6 ∷ 0 ∷ 0 ∷ 0 ∷ 7 ∷ 0 ∷ 0 ∷ 0 ∷ 8 ∷ 0 ∷ 0 ∷ 0 ∷ 4 ∷ []) (7 ∷ [])))
-    ∷ act (changes (receives 930 (h 3) 354376 (From 7)))
-    ∷ act (changes (receives 931 (h 6) 354376 (From 7)))
-    ∷ act (changes (receives 932 (h 7) 354376 (From 7)))
-    ∷ act (changes (receives 933 (h 8) 354376 (From 7)))
+    ∷ act (changes (receives 930 (h 3) 354376 (Some 7)))
+    ∷ act (changes (receives 931 (h 6) 354376 (Some 7)))
+    ∷ act (changes (receives 932 (h 7) 354376 (Some 7)))
+    ∷ act (changes (receives 933 (h 8) 354376 (Some 7)))
     ∷ act (changes (requests 940 9 (0 ∷ 0 ∷ 0 ∷ 1 ∷ []) (50 ∷ []) 58 0 0))
     ∷ act (changes (requests 900 9 (0 ∷ 0 ∷ 0 ∷ 2 ∷ []) (51 ∷ []) 58 0 0))
     ∷ []

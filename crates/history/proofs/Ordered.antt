@@ -1,6 +1,6 @@
 -- EVERY REPORT IS IN ORDER, of any words: what a call lets go comes out of pending entries that rise by hash, by a test of each, or one alone. A
 -- delivery takes its entry out first; a hedge that it decides ends the probe, so that no two of the others' lists meet. Assumes nothing.
-use Rattle.std.specs.Prelude.{◌≡◌, refl, Bool, not, ◌||◌, List, [], ◌∷◌, ◌++◌, map, ℕ, zero, suc, ◌≤◌, ◌^◌, length, take, drop, get_or, set, eqb, ltb}
+use Rattle.std.specs.Prelude.{◌≡◌, refl, Bool, not, ◌||◌, List, [], ◌∷◌, ◌++◌, map, ℕ, zero, suc, ◌≤◌, ◌^◌, length, take, drop, get_or, set, eqb, ltb, None, Some, Option}
 use Rattle.std.proofs.Common.{sym, ap, subst, inl, inr, append-nil, arith, take_at, eqb-true}
 use Rattle.std.specs.Int.Bits.{bit_or}
 use Rattle.model.specs.Lists.{count}
@@ -19,15 +19,9 @@ use Rattle.model.specs.Perform.{change, proposes, requested, observed, moment_of
 use Rattle.model.specs.declared.Hash.{Hash}
 use Rattle.model.specs.declared.Entry.{Entry}
 use Rattle.model.specs.declared.Release.{Release}
-use Rattle.model.specs.declared.Front.{Front}
-use Rattle.model.specs.declared.Front.TheVariants.{Nothing, At}
-use Rattle.model.specs.declared.Source.{Source}
-use Rattle.model.specs.declared.Source.TheVariants.{Missing, From}
-use Rattle.model.specs.declared.Height.{Height}
 use Rattle.model.specs.declared.ColdFront.{ColdFront}
 use Rattle.model.specs.declared.ColdFront.TheVariants.{Idle, Waiting, Racing}
-use Rattle.model.specs.declared.Probe.{Probe}
-use Rattle.model.specs.declared.Probe.TheVariants.{NoProbe, Probing}
+use Rattle.model.specs.declared.PrefixProbe.{PrefixProbe}
 use Rattle.laws.specs.Numbers.{both}
 use Rattle.laws.specs.Entries.{Rising, rising_weaken}
 use Rattle.laws.specs.Sound.{Sound}
@@ -65,9 +59,9 @@ gone_rises : (goes : Entry → ℕ) (l : List Entry) → Rising 0 l → Rises (g
 gone_rises goes l r = rises_from 0 (gone goes l) (gone_rising 0 goes l r)
 
 -- one entry alone, or none
-take_out_rises : (r c : ℕ) (f : Front) (w : Window) → Rises (take_out r c f w).gone
-take_out_rises r c Nothing w = tt
-take_out_rises r c (At e) w = tt
+take_out_rises : (r c : ℕ) (f : Option Entry) (w : Window) → Rises (take_out r c f w).gone
+take_out_rises r c None w = tt
+take_out_rises r c (Some e) w = tt
 
 remove_rises : (h : Hash) (r c : ℕ) (w : Window) → Rises (remove_pending h r c w).gone
 unfolding remove_pending
@@ -79,20 +73,20 @@ retain_rises keep r w g = gone_rises (lost_reason keep r) w.queue.pending g
 
 -- ---- a credit: the hedge, then the race
 
-race_by_rises : (s : Source) (owner accepted started : ℕ) (racers : List ℕ) (c : ℕ) (w : Window) → Rising 0 w.queue.pending
+race_by_rises : (s : Option ℕ) (owner accepted started : ℕ) (racers : List ℕ) (c : ℕ) (w : Window) → Rising 0 w.queue.pending
     → Rises (race_by s owner accepted started racers c w).gone
 unfolding race_won
-race_by_rises Missing owner accepted started racers c w g = tt
-race_by_rises (From win) owner accepted started racers c w g = retain_rises (λ s. eqb s win || not (present (get_or racers s 0))) 9 _ g
+race_by_rises None owner accepted started racers c w g = tt
+race_by_rises (Some win) owner accepted started racers c w g = retain_rises (λ s. eqb s win || not (present (get_or racers s 0))) 9 _ g
 
-probe_delivery_rises : (p : Probe) (h : Hash) (source c : ℕ) (w : Window) → Rising 0 w.queue.pending → Rises (probe_delivery p h source c w).gone
+probe_delivery_rises : (p : Option PrefixProbe) (h : Hash) (source c : ℕ) (w : Window) → Rising 0 w.queue.pending → Rises (probe_delivery p h source c w).gone
 unfolding race_progress
-probe_delivery_rises NoProbe h source c w g = tt
-probe_delivery_rises (Probing owner accepted started) h source c w g =
+probe_delivery_rises None h source c w g = tt
+probe_delivery_rises (Some p) h source c w g =
     let i = place_of h w.races.planned in
     let rs = set w.races.racers source (progressed i (get_or w.races.racers source 0)) in
     elim (both (ltb i (length w.races.planned))) [
-      | inl q ↦ rw q (race_by_rises (winner 0 rs) owner (bit_or accepted (2 ^ i)) started rs c w g)
+      | inl q ↦ rw q (race_by_rises (winner 0 rs) p.owner (bit_or p.accepted (2 ^ i)) p.started rs c w g)
       | inr q ↦ rw q tt
     ]
 
@@ -123,36 +117,36 @@ resolve_rises (Racing owner alternate front) h source c w g = elim (both (same f
   | inr q ↦ rw q (probe_rises h source c w g)
 ]
 
-credit_rises : (h : Hash) (source : ℕ) (n : Height) (c : ℕ) (w : Window) → Rising 0 w.queue.pending → Rises (credit_delivery_from h source n c w).gone
+credit_rises : (h : Hash) (source : ℕ) (n : Option ℕ) (c : ℕ) (w : Window) → Rising 0 w.queue.pending → Rises (credit_delivery_from h source n c w).gone
 unfolding credit_delivery_from resolve_cold_front_delivery credit_duplicate_delivery body_noted
 credit_rises h source n c w g = resolve_rises w.races.cold h source c (credit_duplicate_delivery h source (body_noted source c w)) g
 
-credit_by_rises : (s : Source) (h : Hash) (n : Height) (c : ℕ) (w : Window) → Rising 0 w.queue.pending → Rises (credit_by s h n c w).gone
-credit_by_rises Missing h n c w g = tt
-credit_by_rises (From source) h n c w g = credit_rises h source n c w g
+credit_by_rises : (s : Option ℕ) (h : Hash) (n : Option ℕ) (c : ℕ) (w : Window) → Rising 0 w.queue.pending → Rises (credit_by s h n c w).gone
+credit_by_rises None h n c w g = tt
+credit_by_rises (Some source) h n c w g = credit_rises h source n c w g
 
 -- ---- every change
 
-received_by : (f : Front) (source : Source) (h : Hash) (c : ℕ) (w : Window) → Rising 0 (take_out 1 c f w).window.queue.pending
+received_by : (f : Option Entry) (source : Option ℕ) (h : Hash) (c : ℕ) (w : Window) → Rising 0 (take_out 1 c f w).window.queue.pending
     → InOrder f (and_then (take_out 1 c f w) (credit_by source h (height_of f) c)).gone
-received_by Nothing source h c w g = credit_by_rises source h _ c w g
-received_by (At e) source h c w g = (refl, credit_by_rises source h _ c _ g)
+received_by None source h c w g = credit_by_rises source h _ c w g
+received_by (Some e) source h c w g = (refl, credit_by_rises source h _ c _ g)
 
-received_order : (h : Hash) (bytes : ℕ) (source : Source) (c : ℕ) (w : Window) → Sound c w
+received_order : (h : Hash) (bytes : ℕ) (source : Option ℕ) (c : ℕ) (w : Window) → Sound c w
     → InOrder (found h w.queue.pending) (mark_received_from h bytes source c w).gone
 unfolding mark_received_from remove_pending
 received_order h bytes source c w g = received_by (found h w.queue.pending) source h c w (remove_lets h 1 g).sound.queue.rising
 
-reject_rises : (h : Hash) (s : Source) (c : ℕ) (w : Window) → Rises (reject_delivery h s c w).gone
+reject_rises : (h : Hash) (s : Option ℕ) (c : ℕ) (w : Window) → Rises (reject_delivery h s c w).gone
 unfolding reject_delivery
 reject_rises h s c w = let v = rejected_by s h w in elim (both (is_owner s (found h v.queue.pending))) [
   | inl q ↦ rw q (remove_rises h 2 c v)
   | inr q ↦ rw q tt
 ]
 
-probe_kept_rising : (owns : ℕ → Bool) (p : Probe) (racers : List ℕ) (w : Window) → Rising 0 w.queue.pending → Rising 0 (probe_kept owns p racers w).queue.pending
-probe_kept_rising owns NoProbe racers w g = g
-probe_kept_rising owns (Probing owner accepted started) racers w g = elim (both (not (owns owner) || ltb (count present racers) 2)) [ inl q ↦ rw q g | inr q ↦ rw q g ]
+probe_kept_rising : (owns : ℕ → Bool) (p : Option PrefixProbe) (racers : List ℕ) (w : Window) → Rising 0 w.queue.pending → Rising 0 (probe_kept owns p racers w).queue.pending
+probe_kept_rising owns None racers w g = g
+probe_kept_rising owns (Some p) racers w g = elim (both (not (owns p.owner) || ltb (count present racers) 2)) [ inl q ↦ rw q g | inr q ↦ rw q g ]
 
 owned_rises : (flags : List ℕ) (w : Window) → Rising 0 w.queue.pending → Rises (retain_owned_by flags w).gone
 unfolding retain_owned_by roles_kept

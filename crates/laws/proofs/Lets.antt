@@ -1,6 +1,6 @@
 -- What SPECIFICATION 6.7 says keeps a window sound, and what goes is picked out of the pending entries. Steps run at the clock c of the soundness.
 -- Assumes nothing.
-use Rattle.std.specs.Prelude.{◌≡◌, refl, Bool, not, ◌&&◌, ◌||◌, List, [], ◌∷◌, ℕ, suc, ◌≤◌, ltb}
+use Rattle.std.specs.Prelude.{◌≡◌, refl, Bool, not, ◌&&◌, ◌||◌, List, [], ◌∷◌, ℕ, suc, ◌≤◌, ltb, None, Some, Option}
 use Rattle.std.proofs.Common.{inl, inr, arith}
 use Rattle.model.specs.Numbers.{present}
 use Rattle.model.specs.Lists.{any, count}
@@ -14,15 +14,9 @@ use Rattle.model.specs.LettingGo.{without, take_out, remove_pending, release_pen
 use Rattle.model.specs.declared.Hash.{Hash}
 use Rattle.model.specs.declared.Entry.{Entry}
 use Rattle.model.specs.declared.Release.{Release}
-use Rattle.model.specs.declared.Front.{Front}
-use Rattle.model.specs.declared.Source.{Source}
-use Rattle.model.specs.declared.Source.TheVariants.{Missing, From}
-use Rattle.model.specs.declared.Height.{Height}
-use Rattle.model.specs.declared.Height.TheVariants.{Unknown, Known}
 use Rattle.model.specs.declared.ColdFront.{ColdFront}
 use Rattle.model.specs.declared.ColdFront.TheVariants.{Idle, Waiting, Racing}
-use Rattle.model.specs.declared.Probe.{Probe}
-use Rattle.model.specs.declared.Probe.TheVariants.{NoProbe, Probing}
+use Rattle.model.specs.declared.PrefixProbe.{PrefixProbe}
 use Rattle.model.specs.declared.Observation.{Observation}
 use Rattle.model.specs.declared.Observation.TheVariants.{Unarmed, Armed, Swept}
 use Rattle.laws.specs.Numbers.{both, lesser_le_first}
@@ -43,7 +37,7 @@ without_is : (c r : ℕ) (e : Entry) (q : Queue) (m : List Entry) → remove e.h
 unfolding without resets total_after
 without_is c r e q m z = rw z
 
-take_out_lets : {c : ℕ} {w : Window} (h : Hash) (r : ℕ) {f : Front} → Finding h w.queue.pending f → Sound c w → Lets c w (take_out r c f w)
+take_out_lets : {c : ℕ} {w : Window} (h : Hash) (r : ℕ) {f : Option Entry} → Finding h w.queue.pending f → Sound c w → Lets c w (take_out r c f w)
 take_out_lets h r (missing z) g = record { sound = g; picks = done }
 take_out_lets {c} {w} h r (at {e = e} {m = m} k p) g =
     let q = w.queue in
@@ -60,11 +54,11 @@ pub remove_lets : {c : ℕ} {w : Window} (h : Hash) (r : ℕ) → Sound c w → 
 unfolding remove_pending
 remove_lets {w = w} h r g = take_out_lets h r (found_is h w.queue.pending) g
 
-lower_steady : {c : ℕ} (n : Height) (w : Window) → Sound c w → Steady c w (lower_to n w)
-lower_steady Unknown w g = record { sound = g; same = refl }
-lower_steady (Known n) w g = record { sound = sound_frontier g _ (omega (arith, lesser_le_first w.frontier n, g.frontier)); same = refl }
+lower_steady : {c : ℕ} (n : Option ℕ) (w : Window) → Sound c w → Steady c w (lower_to n w)
+lower_steady None w g = record { sound = g; same = refl }
+lower_steady (Some n) w g = record { sound = sound_frontier g _ (omega (arith, lesser_le_first w.frontier n, g.frontier)); same = refl }
 
-pub requeue_lets : {c : ℕ} {w : Window} (h : Hash) (n : Height) → Sound c w → Lets c w (requeue_for_retry h n c w)
+pub requeue_lets : {c : ℕ} {w : Window} (h : Hash) (n : Option ℕ) → Sound c w → Lets c w (requeue_for_retry h n c w)
 unfolding requeue_for_retry
 requeue_lets h n g = lets_after (lower_to n) (remove_lets h 3 g) (lower_steady n)
 
@@ -133,15 +127,15 @@ module _ (c : ℕ) (owns : ℕ → Bool) where
   cold_kept_sound (Waiting owner h since) k = elim (both (owns owner)) [ inl q ↦ rw q k | inr q ↦ rw q tt ]
   cold_kept_sound (Racing owner alternate h) k = elim (both (owns owner && owns alternate)) [ inl q ↦ rw q k | inr q ↦ rw q tt ]
 
-  peer_kept_sound : (s : Source) → SoundSource s → SoundSource (peer_kept owns s)
-  peer_kept_sound Missing k = k
-  peer_kept_sound (From s) k = elim (both (owns s)) [ inl q ↦ rw q k | inr q ↦ rw q tt ]
+  peer_kept_sound : (s : Option ℕ) → SoundSource s → SoundSource (peer_kept owns s)
+  peer_kept_sound None k = k
+  peer_kept_sound (Some s) k = elim (both (owns s)) [ inl q ↦ rw q k | inr q ↦ rw q tt ]
 
-  probe_kept_steady : (p : Probe) (rs : List ℕ) (v : Window) → SoundProbe c p v.races.planned v.races.racers → Bounded 256 rs → Sound c v → Steady c v (probe_kept owns p rs v)
-  probe_kept_steady NoProbe rs v k b g = record { sound = g; same = refl }
-  probe_kept_steady (Probing owner accepted started) rs v k b g = elim (both (not (owns owner) || ltb (count present rs) 2)) [
+  probe_kept_steady : (p : Option PrefixProbe) (rs : List ℕ) (v : Window) → SoundProbe c p v.races.planned v.races.racers → Bounded 256 rs → Sound c v → Steady c v (probe_kept owns p rs v)
+  probe_kept_steady None rs v k b g = record { sound = g; same = refl }
+  probe_kept_steady (Some p) rs v k b g = elim (both (not (owns p.owner) || ltb (count present rs) 2)) [
     | inl q ↦ rw q (record { sound = sound_no_probe g; same = refl })
-    | inr q ↦ rw q (record { sound = sound_probe g (Probing owner accepted started) v.races.planned rs k b; same = refl })
+    | inr q ↦ rw q (record { sound = sound_probe g (Some p) v.races.planned rs k b; same = refl })
   ]
 
   roles_steady : {w : Window} → Sound c w → Steady c w (roles_kept owns w)

@@ -1,5 +1,5 @@
 -- A request and an owned fetch keep a window sound. Assumes nothing.
-use Rattle.std.specs.Prelude.{Bool, cond, not, ◌&&◌, ℕ, ◌+◌, ◌≤◌}
+use Rattle.std.specs.Prelude.{Bool, cond, not, ◌&&◌, ℕ, ◌+◌, ◌≤◌, None}
 use Rattle.std.proofs.Math.Logic.{inl, inr}
 use mathlib.Core.List.{List, [], ◌∷◌}
 use native.Mathlib.Omega.{arith}
@@ -9,7 +9,6 @@ use Rattle.model.specs.Window.{Window, Queue, HighWater, with_attempted, with_fr
 use Rattle.model.specs.Races.{is_empty}
 use Rattle.model.specs.Calls.{Ask, puts, raised, started, noted, mark_requested, Fetching, held, staged, asked, no_capacity, owned_fetch, fetched, mark_owned_fetch}
 use Rattle.model.specs.declared.Hash.{Hash}
-use Rattle.model.specs.declared.Source.TheVariants.{Missing}
 use Rattle.laws.specs.Numbers.{both, second_le_greater, greater_le}
 use Rattle.laws.specs.Sound.{NoLower, Sound}
 use Rattle.laws.specs.Parts.{sound_frontier, sound_attempted, sound_filled}
@@ -37,7 +36,7 @@ pub requested_sound : {c : ℕ} {w : Window} (ks : List Ask) (owner next : ℕ) 
     → length ks + length w.queue.pending ≤ max_pending → Sound c w → Sound c (mark_requested ks owner next c w)
 unfolding mark_requested
 requested_sound {c} {w} ks owner next o t low f n b g = elim (both (is_empty w.queue.pending && not (is_empty ks))) [
-  | inl q ↦ rw q (raise (with_attempted Missing w) (sound_attempted g Missing tt) f b)
+  | inl q ↦ rw q (raise (with_attempted None w) (sound_attempted g None tt) f b)
   | inr q ↦ rw q (raise w g f b)
 ]
   where

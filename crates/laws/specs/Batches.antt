@@ -1,5 +1,5 @@
 -- Letting go in batches. What resets make of a seat, once all that goes has gone, depends only on its oldest request before and after. Assumes nothing.
-use Rattle.std.specs.Prelude.{◌≡◌, Bool, true, false, cond, length, eqb, ltb}
+use Rattle.std.specs.Prelude.{◌≡◌, Bool, true, false, cond, length, eqb, ltb, Some}
 use Rattle.std.proofs.Math.Path.{refl, sym}
 use Rattle.std.proofs.Common.{◌∙◌, get_or-set_same}
 use Rattle.std.proofs.Math.Logic.{inl, inr}
@@ -19,7 +19,6 @@ use Rattle.model.specs.Window.{Window, Queue, queue, Step, with_queue, with_fron
 use Rattle.model.specs.LettingGo.{without, remove_pending, gone, if_gone, total_after, frontier_after, extract, resets, sweep_reason, expire_pending, forecast, forecast_blocks, forecast_bytes}
 use Rattle.model.specs.declared.Entry.{Entry}
 use Rattle.model.specs.declared.Release.{Release}
-use Rattle.model.specs.declared.Front.TheVariants.{At}
 use Rattle.laws.specs.Numbers.{both, greater_first}
 use Rattle.laws.specs.Bag.{weigh, one, Pick, here, there, pick_weigh}
 use Rattle.laws.specs.Entries.{estimate_of, on, with_hash, on_self, by_entry, rising_one, remove_pick, Picks, picks_weigh, owned, early, oldest_none, oldest_first, first_oldest}
@@ -283,7 +282,7 @@ retired e = release e 5
 abbrev pub let_out : ℕ → List Release → List Entry → Window → Step
 let_out now gs m w = record { window = with_frontier (frontier_after gs w.frontier) (with_queue (outs now gs m w.queue) w); gone = gs }
 
-found_pick : {e : Entry} {l m : List Entry} → with_hash (key e.hash) l ≤ 1 → Pick e l m → found e.hash l ≡ At e
+found_pick : {e : Entry} {l m : List Entry} → with_hash (key e.hash) l ≤ 1 → Pick e l m → found e.hash l ≡ Some e
 unfolding found weigh same
 found_pick {e} b here = rw (eq-eqb (key e.hash) (key e.hash) refl)
 found_pick {e} b (there {x = x} p) = elim (both (eqb (key x.hash) (key e.hash))) [

@@ -1,5 +1,5 @@
 -- The smaller calls (SPECIFICATION 7), and a duplicate delivery, keep a window sound; and so does an opening. Assumes nothing.
-use Rattle.std.specs.Prelude.{◌≡◌, refl, true, ◌&&◌, List, ℕ, suc, ◌≤◌, eqb}
+use Rattle.std.specs.Prelude.{◌≡◌, refl, true, ◌&&◌, List, ℕ, suc, ◌≤◌, eqb, None}
 use Rattle.std.proofs.Common.{inl, inr, arith}
 use Rattle.model.specs.Numbers.{max_clock, max_seat}
 use Rattle.model.specs.Hash.{same}
@@ -10,7 +10,6 @@ use Rattle.model.specs.Window.{Window}
 use Rattle.model.specs.Calls.{opened, unless_observed, credit_duplicate_delivery, engages, set_fanout_eligible_peers, clear_preferred_peer}
 use Rattle.model.specs.declared.Hash.{Hash}
 use Rattle.model.specs.declared.Settings.{Settings}
-use Rattle.model.specs.declared.Source.TheVariants.{Missing}
 use Rattle.model.specs.declared.Observation.{Observation}
 use Rattle.model.specs.declared.Observation.TheVariants.{Unarmed, Armed, Swept}
 use Rattle.laws.specs.Numbers.{both}
@@ -70,4 +69,4 @@ fanout_steady {c} {w} n g =
 
 pub preferred_steady : {c : ℕ} {w : Window} → Sound c w → Steady c w (clear_preferred_peer w)
 unfolding clear_preferred_peer
-preferred_steady g = record { sound = sound_preferred g Missing tt; same = refl }
+preferred_steady g = record { sound = sound_preferred g None tt; same = refl }

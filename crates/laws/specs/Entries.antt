@@ -1,5 +1,5 @@
 -- Laws of the entries: what an insertion, a removal and a sifting do to every weight, to the order and to the oldest times. Assumes nothing.
-use Rattle.std.specs.Prelude.{◌≡◌, false, cond, ℕ, zero, suc, ◌+◌, ◌≤◌, ◌<◌, eqb, ltb}
+use Rattle.std.specs.Prelude.{◌≡◌, false, cond, ℕ, zero, suc, ◌+◌, ◌≤◌, ◌<◌, eqb, ltb, None, Some, Option}
 use Rattle.std.proofs.Math.Path.{refl}
 use Rattle.std.proofs.Common.{ap, eqb-true, ltb-true, ltb-false, eq-eqb, ne_eqb}
 use Rattle.std.proofs.Math.Logic.{inl, inr}
@@ -12,8 +12,6 @@ use Rattle.model.specs.LettingGo.{if_gone, if_kept, gone, kept}
 use Rattle.model.specs.declared.Hash.{Hash}
 use Rattle.model.specs.declared.Entry.{Entry}
 use Rattle.model.specs.declared.Release.{Release}
-use Rattle.model.specs.declared.Front.{Front}
-use Rattle.model.specs.declared.Front.TheVariants.{Nothing, At}
 use Rattle.laws.specs.Numbers.{both, lesser_le_first, lesser_le_second, le_lesser}
 use Rattle.laws.specs.Bag.{weigh, one, Pick, here, there, pick_weigh}
 
@@ -134,11 +132,11 @@ remove_pick {e} b (there {x = x} {l = l} {m = m} p) = elim (both (eqb (key x.has
 -- ---- an entry that is found
 
 -- what `found` says: nothing of that hash, or an entry of it, and what is left without it
-pub data Finding (h : Hash) (l : List Entry) : Front → Type 0 where
-  missing : with_hash (key h) l ≡ 0 → Finding h l Nothing
-  at : {e : Entry} {m : List Entry} → key e.hash ≡ key h → Pick e l m → Finding h l (At e)
+pub data Finding (h : Hash) (l : List Entry) : Option Entry → Type 0 where
+  missing : with_hash (key h) l ≡ 0 → Finding h l None
+  at : {e : Entry} {m : List Entry} → key e.hash ≡ key h → Pick e l m → Finding h l (Some e)
 
-found_cons : {h : Hash} {x : Entry} {l : List Entry} {r : Front} → eqb (key x.hash) (key h) ≡ false → Finding h l r → Finding h (x ∷ l) r
+found_cons : {h : Hash} {x : Entry} {l : List Entry} {r : Option Entry} → eqb (key x.hash) (key h) ≡ false → Finding h l r → Finding h (x ∷ l) r
 unfolding weigh on
 found_cons q (missing z) = missing (rw q (omega arith))
 found_cons q (at k p) = at k (there p)

@@ -1,9 +1,7 @@
 -- Which arguments a call can have, by the types that the code takes. Definitions only.
-use Rattle.std.specs.Prelude.{List, [], ◌∷◌, ℕ, ◌≤◌}
+use Rattle.std.specs.Prelude.{List, [], ◌∷◌, ℕ, ◌≤◌, None, Some, Option}
 use Rattle.model.specs.Numbers.{max_height}
 use Rattle.model.specs.Refusals.{Change, Call, opens, changes, queries, requests, fetches, receives, credits, credits_duplicate, rejects, expires, requeues, releases, retires, retains, marks_unresponsive, confirms_probe, confirms_hedge, observes, sets_fanout, clears_preferred, plans, plans_retry}
-use Rattle.model.specs.declared.Height.{Height}
-use Rattle.model.specs.declared.Height.TheVariants.{Unknown, Known}
 
 -- SPECIFICATION 1.1: a height has 32 bits. All else may be any number: nothing that is proved here rests on the words of a hash, or on a number of
 -- bytes or blocks, being below 2^64
@@ -11,9 +9,9 @@ abbrev pub LowAll : List ℕ → Type 0
 LowAll [] = Unit {0}
 LowAll (t ∷ ts) = (t ≤ max_height) × LowAll ts
 
-abbrev pub LowHeight : Height → Type 0
-LowHeight Unknown = Unit {0}
-LowHeight (Known n) = n ≤ max_height
+abbrev pub LowHeight : Option ℕ → Type 0
+LowHeight None = Unit {0}
+LowHeight (Some n) = n ≤ max_height
 
 abbrev pub FitsChange : Change → Type 0
 FitsChange (requests c owner hashes heights next bytes n) = LowAll heights × (next ≤ max_height)

@@ -1,5 +1,5 @@
 -- One part of a window's table replaced is the table of the window with that part replaced. Assumes nothing.
-use Rattle.std.specs.Prelude.{◌≡◌, ℕ, ◌+◌, ◌≤◌, ◌<◌, take, drop, replicate}
+use Rattle.std.specs.Prelude.{◌≡◌, ℕ, ◌+◌, ◌≤◌, ◌<◌, take, drop, replicate, Option}
 use Rattle.std.proofs.Math.Path.{refl, sym, ap}
 use Rattle.std.proofs.Common.{◌∙◌, arith, zero-add, drop_at}
 use mathlib.Core.List.{List, [], ◌∷◌, ◌++◌, append_assoc}
@@ -14,11 +14,10 @@ use Rattle.model.specs.declared.Hash.{Hash}
 use Rattle.model.specs.declared.Entry.{Entry}
 use Rattle.model.specs.declared.Pace.{Pace}
 use Rattle.model.specs.declared.Fanout.{Fanout}
-use Rattle.model.specs.declared.Source.{Source}
-use Rattle.model.specs.declared.Stall.{Stall}
-use Rattle.model.specs.declared.Stuck.{Stuck}
+use Rattle.model.specs.declared.StallEpisode.{StallEpisode}
+use Rattle.model.specs.declared.StuckFrontier.{StuckFrontier}
 use Rattle.model.specs.declared.ColdFront.{ColdFront}
-use Rattle.model.specs.declared.Probe.{Probe}
+use Rattle.model.specs.declared.PrefixProbe.{PrefixProbe}
 use Rattle.model.specs.declared.Observation.{Observation}
 use Rattle.laws.specs.Tables.{with_entries, with_racers, with_head, with_words, replaced, removed, put_in, kept_rows}
 use Rattle.laws.specs.Tables as tables
@@ -93,11 +92,11 @@ module _ (w : Window) where
   unfolding with_words with_head replaced table head_words counts_words small_words settings_words
   pace_in p = refl
 
-  pub preferred_in : (s : Source) → with_words 25 (source_word s ∷ []) (table w) ≡ table (with_preferred s w)
+  pub preferred_in : (s : Option ℕ) → with_words 25 (source_word s ∷ []) (table w) ≡ table (with_preferred s w)
   unfolding with_words with_head replaced table head_words counts_words small_words settings_words
   preferred_in s = refl
 
-  pub attempted_in : (s : Source) → with_words 26 (source_word s ∷ []) (table w) ≡ table (with_attempted s w)
+  pub attempted_in : (s : Option ℕ) → with_words 26 (source_word s ∷ []) (table w) ≡ table (with_attempted s w)
   unfolding with_words with_head replaced table head_words counts_words small_words settings_words
   attempted_in s = refl
 
@@ -119,12 +118,12 @@ module _ (w : Window) where
   to_hedged_long : lengths to_hedged ≡ 46
   to_hedged_long = omega (arith, first_long, length_stall w.watch.stall, length_stuck w.watch.stuck, length_cold w.races.cold)
 
-  pub stall_in : (x : Stall) → with_words 27 (stall_words x) (table w) ≡ table (with_stall x w)
+  pub stall_in : (x : Option StallEpisode) → with_words 27 (stall_words x) (table w) ≡ table (with_stall x w)
   unfolding with_words with_head table head_words counts_words small_words settings_words
   stall_in x =
       ap (λ (h : List ℕ). with_head h (table w)) (after (first w ∷ []) 27 (stall_words x) (stall_words w.watch.stall) _ (omega (arith, first_long)) (length_stall x ∙ sym (length_stall w.watch.stall)))
 
-  pub stuck_in : (x : Stuck) → with_words 33 (stuck_words x) (table w) ≡ table (with_stuck x w)
+  pub stuck_in : (x : Option StuckFrontier) → with_words 33 (stuck_words x) (table w) ≡ table (with_stuck x w)
   unfolding with_words with_head table head_words counts_words small_words settings_words
   stuck_in x =
       ap (λ (h : List ℕ). with_head h (table w)) (after to_stuck 33 (stuck_words x) (stuck_words w.watch.stuck) _ (omega (arith, first_long, length_stall w.watch.stall)) (length_stuck x ∙ sym (length_stuck w.watch.stuck)))
@@ -161,19 +160,19 @@ module _ (w : Window) where
         ap (λ (h : List ℕ). with_head h (table w)) (after to_observation 55 (observation_words x) (observation_words w.watch.observation) _ (omega (arith, to_hedged_long, hedged_long)) (length_observation x ∙ sym observation_long))
 
     -- the probe's own words in the place of those that are there
-    probe_put : (x : Probe) (n : ℕ) → replaced 61 (probe_words x n) (head_words w) ≡ row to_probe (probe_words x n ++ (planned_words w.races.planned ++ replicate 415 0))
+    probe_put : (x : Option PrefixProbe) (n : ℕ) → replaced 61 (probe_words x n) (head_words w) ≡ row to_probe (probe_words x n ++ (planned_words w.races.planned ++ replicate 415 0))
     unfolding head_words counts_words small_words settings_words
     probe_put x n =
         let m = length w.races.planned in
         after to_probe 61 (probe_words x n) (probe_words w.races.probe m) _ (omega (arith, to_hedged_long, hedged_long, observation_long)) (length_probe x n ∙ sym (length_probe w.races.probe m))
 
     -- the probe's own words, its hashes as they were
-    pub probe_in : (x : Probe) → with_words 61 (probe_words x (length w.races.planned)) (table w) ≡ table (with_probe x w.races.planned w.races.racers w)
+    pub probe_in : (x : Option PrefixProbe) → with_words 61 (probe_words x (length w.races.planned)) (table w) ≡ table (with_probe x w.races.planned w.races.racers w)
     unfolding with_words with_head table head_words counts_words small_words settings_words
     probe_in x = ap (λ (h : List ℕ). with_head h (table w)) (probe_put x (length w.races.planned))
 
     -- the probe with its hashes, the racers as they were
-    pub plan_in : (x : Probe) (hs : List Hash) → length hs ≤ 8
+    pub plan_in : (x : Option PrefixProbe) (hs : List Hash) → length hs ≤ 8
         → with_words 65 (planned_words hs) (with_words 61 (probe_words x (length hs)) (table w)) ≡ table (with_probe x hs w.races.racers w)
     unfolding with_words with_head table head_words counts_words small_words settings_words
     plan_in x hs b =

@@ -1,6 +1,6 @@
 -- The head, group by group: what a window's words say is what the window has, and words that pass the test are the words of what they say.
 -- Assumes nothing.
-use Rattle.std.specs.Prelude.{◌≡◌, refl, Bool, true, false, ℕ, zero, suc, ◌+◌, ◌-◌, ◌*◌, ◌≤◌, ◌<◌, length, drop, replicate, eqb}
+use Rattle.std.specs.Prelude.{◌≡◌, refl, Bool, true, false, ℕ, zero, suc, ◌+◌, ◌-◌, ◌*◌, ◌≤◌, ◌<◌, length, drop, replicate, eqb, None, Some, Option}
 use Rattle.std.proofs.Math.Path.{sym, ap}
 use Rattle.std.proofs.Common.{◌∙◌, length-append, length-drop, take-append-drop, take_at, drop_at, drop-drop, drop-cons, get_or-take, get_or-drop, length-take-le, eqb-true}
 use mathlib.Core.List.{List, [], ◌∷◌, ◌++◌}
@@ -12,16 +12,11 @@ use Rattle.model.specs.Lists.{pad, all}
 use Rattle.model.specs.Hash.{hash, hash_words, hashes_in, hashes_words}
 use Rattle.model.specs.Layout.{Table, word, words_at, hash_at, is_0, source_word, source_of, flag_word, stall_words, stall_of, stuck_words, stuck_of, cold_words, cold_of, observation_words, observation_of, probe_words, probe_of}
 use Rattle.model.specs.declared.Hash.{Hash}
-use Rattle.model.specs.declared.Source.{Source}
-use Rattle.model.specs.declared.Source.TheVariants.{Missing, From}
-use Rattle.model.specs.declared.Stall.{Stall}
-use Rattle.model.specs.declared.Stall.TheVariants.{Calm, Episode}
-use Rattle.model.specs.declared.Stuck.{Stuck}
-use Rattle.model.specs.declared.Stuck.TheVariants.{Moving, StuckAt}
+use Rattle.model.specs.declared.StallEpisode.{StallEpisode}
+use Rattle.model.specs.declared.StuckFrontier.{StuckFrontier}
 use Rattle.model.specs.declared.ColdFront.{ColdFront}
 use Rattle.model.specs.declared.ColdFront.TheVariants.{Idle, Waiting, Racing}
-use Rattle.model.specs.declared.Probe.{Probe}
-use Rattle.model.specs.declared.Probe.TheVariants.{NoProbe, Probing}
+use Rattle.model.specs.declared.PrefixProbe.{PrefixProbe}
 use Rattle.model.specs.declared.Observation.{Observation}
 use Rattle.model.specs.declared.Observation.TheVariants.{Unarmed, Armed, Swept}
 use Rattle.laws.specs.Every.{all_first, all_rest}
@@ -146,9 +141,9 @@ module _ (t : Table) where
 
 -- ---- a seat that may be missing, a flag
 
-pub source_back : (s : Source) → source_of (source_word s) ≡ s
-source_back Missing = refl
-source_back (From s) = refl
+pub source_back : (s : Option ℕ) → source_of (source_word s) ≡ s
+source_back None = refl
+source_back (Some s) = refl
 
 pub source_said : (n : ℕ) → source_word (source_of n) ≡ n
 source_said zero = refl
@@ -166,17 +161,17 @@ flag_said (suc (suc n)) h = absurd (omega arith)
 -- ---- what the words of a group say
 
 module _ (t : Table) where
-  pub stall_back : (s : Stall) → words_at 27 6 t ≡ stall_words s → stall_of (word 27 t) (word 28 t) (hash_at 29 t) ≡ s
-  stall_back Calm e = rw (word_is t 27 6 (replicate 6 0) e 0 (omega arith))
-  stall_back (Episode owner h since) e =
-      let at = word_is t 27 6 (suc since ∷ owner ∷ hash_words h) e in
-      λ i. stall_of (at 0 (omega arith) i) (at 1 (omega arith) i) (hash_is t 27 6 (suc since ∷ owner ∷ hash_words h) e 2 29 refl (omega arith) i)
+  pub stall_back : (s : Option StallEpisode) → words_at 27 6 t ≡ stall_words s → stall_of (word 27 t) (word 28 t) (hash_at 29 t) ≡ s
+  stall_back None e = rw (word_is t 27 6 (replicate 6 0) e 0 (omega arith))
+  stall_back (Some s) e =
+      let at = word_is t 27 6 (suc s.since ∷ s.owner ∷ hash_words s.front) e in
+      λ i. stall_of (at 0 (omega arith) i) (at 1 (omega arith) i) (hash_is t 27 6 (suc s.since ∷ s.owner ∷ hash_words s.front) e 2 29 refl (omega arith) i)
 
-  pub stuck_back : (s : Stuck) → words_at 33 6 t ≡ stuck_words s → stuck_of (word 33 t) (word 34 t) (hash_at 35 t) ≡ s
-  stuck_back Moving e = rw (word_is t 33 6 (replicate 6 0) e 0 (omega arith))
-  stuck_back (StuckAt height h since) e =
-      let at = word_is t 33 6 (suc since ∷ height ∷ hash_words h) e in
-      λ i. stuck_of (at 0 (omega arith) i) (at 1 (omega arith) i) (hash_is t 33 6 (suc since ∷ height ∷ hash_words h) e 2 35 refl (omega arith) i)
+  pub stuck_back : (s : Option StuckFrontier) → words_at 33 6 t ≡ stuck_words s → stuck_of (word 33 t) (word 34 t) (hash_at 35 t) ≡ s
+  stuck_back None e = rw (word_is t 33 6 (replicate 6 0) e 0 (omega arith))
+  stuck_back (Some s) e =
+      let at = word_is t 33 6 (suc s.since ∷ s.height ∷ hash_words s.front) e in
+      λ i. stuck_of (at 0 (omega arith) i) (at 1 (omega arith) i) (hash_is t 33 6 (suc s.since ∷ s.height ∷ hash_words s.front) e 2 35 refl (omega arith) i)
 
   pub cold_back : (s : ColdFront) → words_at 39 7 t ≡ cold_words s → cold_of (word 39 t) (word 40 t) (word 41 t) (hash_at 42 t) ≡ s
   cold_back Idle e = rw (word_is t 39 7 (replicate 7 0) e 0 (omega arith))
@@ -197,10 +192,10 @@ module _ (t : Table) where
       let at = word_is t 55 6 (2 ∷ owner ∷ hash_words h) e in
       λ i. observation_of (at 0 (omega arith) i) (at 1 (omega arith) i) (hash_is t 55 6 (2 ∷ owner ∷ hash_words h) e 2 57 refl (omega arith) i)
 
-  pub probe_back : (p : Probe) (n : ℕ) → words_at 61 4 t ≡ probe_words p n → probe_of (word 61 t) (word 62 t) (word 64 t) ≡ p
-  probe_back NoProbe n e = rw (word_is t 61 4 (0 ∷ 0 ∷ n ∷ 0 ∷ []) e 0 (omega arith))
-  probe_back (Probing owner accepted started) n e =
-      let at = word_is t 61 4 (suc started ∷ owner ∷ n ∷ accepted ∷ []) e in
+  pub probe_back : (p : Option PrefixProbe) (n : ℕ) → words_at 61 4 t ≡ probe_words p n → probe_of (word 61 t) (word 62 t) (word 64 t) ≡ p
+  probe_back None n e = rw (word_is t 61 4 (0 ∷ 0 ∷ n ∷ 0 ∷ []) e 0 (omega arith))
+  probe_back (Some p) n e =
+      let at = word_is t 61 4 (suc p.started ∷ p.owner ∷ n ∷ p.accepted ∷ []) e in
       λ i. probe_of (at 0 (omega arith) i) (at 1 (omega arith) i) (at 3 (omega arith) i)
 
 -- ---- the words of what a group says

@@ -1,5 +1,5 @@
 -- Soundness part by part: what keeps 256 numbers bounded, a later clock, and a window of which one part is another. Assumes nothing.
-use Rattle.std.specs.Prelude.{◌≡◌, Bool, cond, length, get_or, set, replicate}
+use Rattle.std.specs.Prelude.{◌≡◌, Bool, cond, length, get_or, set, replicate, Option, None, Some}
 use Rattle.std.proofs.Math.Path.{refl, ap}
 use Rattle.std.proofs.Common.{◌∙◌, add-suc, suc-add, arith, length-set}
 use Rattle.std.proofs.Math.Logic.{inl, inr}
@@ -13,16 +13,12 @@ use Rattle.model.specs.Window.{Window, Queue, HighWater, Races, Watch, with_cloc
 use Rattle.model.specs.declared.Hash.{Hash}
 use Rattle.model.specs.declared.Pace.{Pace}
 use Rattle.model.specs.declared.Fanout.{Fanout}
-use Rattle.model.specs.declared.Source.{Source}
 use Rattle.model.specs.declared.Observation.{Observation}
-use Rattle.model.specs.declared.Stall.{Stall}
-use Rattle.model.specs.declared.Stall.TheVariants.{Calm, Episode}
-use Rattle.model.specs.declared.Stuck.{Stuck}
-use Rattle.model.specs.declared.Stuck.TheVariants.{Moving, StuckAt}
+use Rattle.model.specs.declared.StallEpisode.{StallEpisode}
+use Rattle.model.specs.declared.StuckFrontier.{StuckFrontier}
 use Rattle.model.specs.declared.ColdFront.{ColdFront}
 use Rattle.model.specs.declared.ColdFront.TheVariants.{Idle, Waiting, Racing}
-use Rattle.model.specs.declared.Probe.{Probe}
-use Rattle.model.specs.declared.Probe.TheVariants.{NoProbe, Probing}
+use Rattle.model.specs.declared.PrefixProbe.{PrefixProbe}
 use Rattle.laws.specs.Numbers.{both}
 use Rattle.laws.specs.Entries.{each_map}
 use Rattle.laws.specs.Sound.{Bounded, SoundQueue, NoLower, SoundPace, SoundSource, SoundCold, SoundProbe, SoundRaces, SoundStall, SoundStuck, SoundObservation, SoundWatch, Sound}
@@ -98,17 +94,17 @@ module _ {c d : ℕ} (b : c ≤ d) where
   later_cold (Waiting owner x since) h = omega arith
   later_cold (Racing owner alternate x) h = h
 
-  later_probe : (x : Probe) (hs : List Hash) (rs : List ℕ) → SoundProbe c x hs rs → SoundProbe d x hs rs
-  later_probe NoProbe hs rs h = h
-  later_probe (Probing owner accepted started) hs rs h = omega arith
+  later_probe : (x : Option PrefixProbe) (hs : List Hash) (rs : List ℕ) → SoundProbe c x hs rs → SoundProbe d x hs rs
+  later_probe None hs rs h = h
+  later_probe (Some p) hs rs h = omega arith
 
-  later_stall : (x : Stall) → SoundStall c x → SoundStall d x
-  later_stall Calm h = tt
-  later_stall (Episode owner x since) h = omega arith
+  later_stall : (x : Option StallEpisode) → SoundStall c x → SoundStall d x
+  later_stall None h = tt
+  later_stall (Some s) h = omega arith
 
-  later_stuck : (x : Stuck) → SoundStuck c x → SoundStuck d x
-  later_stuck Moving h = tt
-  later_stuck (StuckAt height x since) h = omega arith
+  later_stuck : (x : Option StuckFrontier) → SoundStuck c x → SoundStuck d x
+  later_stuck None h = tt
+  later_stuck (Some s) h = omega arith
 
   pub later : {w : Window} → d ≤ max_clock → Sound c w → Sound d w
   later {w} m g = record {
@@ -190,22 +186,22 @@ module _ {c : ℕ} {w : Window} (g : Sound c w) where
   pub sound_hedged : (hs : List Hash) → length hs ≤ 2 → Sound c (with_hedged hs w)
   sound_hedged hs k = let r = g.races in sound_races _ (record { cold = r.cold; hedged = k; preferred = r.preferred; probe = r.probe; racers = r.racers; attempted = r.attempted })
 
-  pub sound_preferred : (s : Source) → SoundSource s → Sound c (with_preferred s w)
+  pub sound_preferred : (s : Option ℕ) → SoundSource s → Sound c (with_preferred s w)
   sound_preferred s k = let r = g.races in sound_races _ (record { cold = r.cold; hedged = r.hedged; preferred = k; probe = r.probe; racers = r.racers; attempted = r.attempted })
 
-  pub sound_attempted : (s : Source) → SoundSource s → Sound c (with_attempted s w)
+  pub sound_attempted : (s : Option ℕ) → SoundSource s → Sound c (with_attempted s w)
   sound_attempted s k = let r = g.races in sound_races _ (record { cold = r.cold; hedged = r.hedged; preferred = r.preferred; probe = r.probe; racers = r.racers; attempted = k })
 
-  pub sound_probe : (p : Probe) (hs : List Hash) (rs : List ℕ) → SoundProbe c p hs rs → Bounded 256 rs → Sound c (with_probe p hs rs w)
+  pub sound_probe : (p : Option PrefixProbe) (hs : List Hash) (rs : List ℕ) → SoundProbe c p hs rs → Bounded 256 rs → Sound c (with_probe p hs rs w)
   sound_probe p hs rs k b = let r = g.races in sound_races _ (record { cold = r.cold; hedged = r.hedged; preferred = r.preferred; probe = k; racers = b; attempted = r.attempted })
 
   pub sound_no_probe : Sound c (without_probe w)
-  sound_no_probe = sound_probe NoProbe [] no_seats (refl, bounded_none 0) (bounded_none 256)
+  sound_no_probe = sound_probe None [] no_seats (refl, bounded_none 0) (bounded_none 256)
 
-  pub sound_stall : (x : Stall) → SoundStall c x → Sound c (with_stall x w)
+  pub sound_stall : (x : Option StallEpisode) → SoundStall c x → Sound c (with_stall x w)
   sound_stall x k = let r = g.watch in sound_watch _ (record { stall = k; stuck = r.stuck; observation = r.observation })
 
-  pub sound_stuck : (x : Stuck) → SoundStuck c x → Sound c (with_stuck x w)
+  pub sound_stuck : (x : Option StuckFrontier) → SoundStuck c x → Sound c (with_stuck x w)
   sound_stuck x k = let r = g.watch in sound_watch _ (record { stall = r.stall; stuck = k; observation = r.observation })
 
   pub sound_observation : (x : Observation) → SoundObservation x → Sound c (with_observation x w)

@@ -1,5 +1,5 @@
 -- What planning leaves of a window and lets go: the window as it was, or its sweep, which may be rewound. Assumes nothing.
-use Rattle.std.specs.Prelude.{Bool, true, false, cond, ◌&&◌, ◌||◌, List, ℕ, leb}
+use Rattle.std.specs.Prelude.{Bool, true, false, cond, ◌&&◌, ◌||◌, List, ℕ, leb, None}
 use Rattle.std.proofs.Math.Dec.{ltb}
 use Rattle.model.specs.Window.{Window, Step, stay, after}
 use Rattle.model.specs.Time.{peer_has_expired_pending}
@@ -9,7 +9,6 @@ use Rattle.model.specs.LettingGo.{expire_pending}
 use Rattle.model.specs.Races.{is_empty}
 use Rattle.model.specs.Calls.{Ask}
 use Rattle.model.specs.Planning.{Lent, Draft, Scan, Proposal, no_request, non_empty_request, expired_request_entries, swept_asks, held_back, maybe_rewind_request_frontier, is_clean, clean_contiguous_peer_request, extend_request_by_reverse_scan, scan_of, request_from, request_by, request_after, next_peer_request_allowing_retry, next_peer_request}
-use Rattle.model.specs.declared.Height.TheVariants.{Unknown}
 
 -- a proposal without its request
 abbrev pub step_of : Proposal → Step
@@ -46,7 +45,7 @@ module _ (P : Step → Type 0) where
     by_keeps : (k : Capacity) (s : Step) → P s → P (step_of (request_by k l s))
     by_keeps no_capacity s h = h
     by_keeps (capacity batch bytes) s h =
-        let d = expired_request_entries l s.window (swept_asks s.gone) batch bytes Unknown in
+        let d = expired_request_entries l s.window (swept_asks s.gone) batch bytes None in
         let t = after s (maybe_rewind_request_frontier l) in
         from_keeps l t (scan_of l t.window batch d) d (rewinds s h)
 

@@ -1,20 +1,16 @@
 -- What SPECIFICATION 6.5 and 6.8 to 6.10 say keeps a window sound: cooling, the plan of a prefix probe, its confirmation, a hedge. Assumes nothing.
-use Rattle.std.specs.Prelude.{refl, cond, not, ◌&&◌, ◌||◌, List, [], ◌∷◌, ◌++◌, ℕ, zero, suc, ◌+◌, ◌*◌, ◌/◌, ◌≤◌, length, set, eqb, ltb, leb}
+use Rattle.std.specs.Prelude.{refl, cond, not, ◌&&◌, ◌||◌, List, [], ◌∷◌, ◌++◌, ℕ, zero, suc, ◌+◌, ◌*◌, ◌/◌, ◌≤◌, length, set, eqb, ltb, leb, Some, None, Option}
 use Rattle.std.proofs.Common.{inl, inr, arith, length-append, leb-false}
 use Rattle.model.specs.Numbers.{max_seat, next_height}
 use Rattle.model.specs.Lists.{any}
 use Rattle.model.specs.Hash.{same, same_hashes, hashes_in}
 use Rattle.model.specs.Records.{lowest}
 use Rattle.model.specs.Cooling.{cools, cooling_noted, key_of, mark_peer_unresponsive}
-use Rattle.model.specs.Window.{Window}
+use Rattle.model.specs.Window.{Window, probing}
 use Rattle.model.specs.Races.{Planned, no_plan, planned, plan_limit, win_blocks, walk, plan_from, is_missing, is_seat, is_probing, plan_by, prefix_probe_plan, by_height, entered, probe_started, confirm_by, is_empty, confirm_prefix_probe, max_hedges, waits_for, hedge_begun, confirm_cold_front_hedge}
 use Rattle.model.specs.declared.Hash.{Hash}
 use Rattle.model.specs.declared.Entry.{Entry}
-use Rattle.model.specs.declared.Front.{Front}
-use Rattle.model.specs.declared.Front.TheVariants.{Nothing, At}
-use Rattle.model.specs.declared.Source.TheVariants.{From}
 use Rattle.model.specs.declared.ColdFront.TheVariants.{Racing}
-use Rattle.model.specs.declared.Probe.TheVariants.{Probing}
 use Rattle.laws.specs.Numbers.{both, lesser_le_second}
 use Rattle.laws.specs.Sound.{Bounded, Sound}
 use Rattle.laws.specs.Parts.{bounded_set, bounded_map, bounded_none, sound_cooling, sound_cold, sound_hedged, sound_attempted, sound_probe}
@@ -56,9 +52,9 @@ from_short : (owner first : ℕ) (hashes : List Hash) → length hashes ≤ 8 �
 unfolding plan_from
 from_short owner first hashes k = elim (both (leb win_blocks (length hashes))) [ inl q ↦ rw q k | inr q ↦ rw q tt ]
 
-by_short : (f : Front) (w : Window) → Short (plan_by f w)
-by_short Nothing w = tt
-by_short (At e) w = elim (both (is_seat w.races.attempted e.owner || any (λ x. not (eqb x.owner e.owner)) w.queue.pending)) [
+by_short : (f : Option Entry) (w : Window) → Short (plan_by f w)
+by_short None w = tt
+by_short (Some e) w = elim (both (is_seat w.races.attempted e.owner || any (λ x. not (eqb x.owner e.owner)) w.queue.pending)) [
   | inl q ↦ rw q tt
   | inr q ↦ elim (both (ltb (plan_limit w.mean) win_blocks)) [
     | inl k ↦ simp (q, k) tt
@@ -84,7 +80,7 @@ started_steady : {c : ℕ} {w : Window} (owner : ℕ) (hashes : List Hash) (alte
     → Steady c w (probe_started owner hashes alternates c w)
 unfolding probe_started
 started_steady {c} owner hashes alternates o k g = record {
-  sound = sound_probe (sound_attempted g (From owner) o) (Probing owner 0 c) hashes _ (o, omega arith, omega arith, k) (entered_bounded alternates _ (bounded_set owner 1 (omega arith) (bounded_none 256)));
+  sound = sound_probe (sound_attempted g (Some owner) o) (probing owner 0 c) hashes _ (o, omega arith, omega arith, k) (entered_bounded alternates _ (bounded_set owner 1 (omega arith) (bounded_none 256)));
   same = refl;
 }
 

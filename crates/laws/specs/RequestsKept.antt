@@ -1,5 +1,5 @@
 -- What a request puts into a queue keeps it sound, and what an owned fetch that asks has made sure of. Assumes nothing.
-use Rattle.std.specs.Prelude.{◌≡◌, Bool, true, false, cond, not, ◌||◌, ℕ, zero, suc, ◌+◌, ◌≤◌, ◌<◌, get_or, eqb, leb}
+use Rattle.std.specs.Prelude.{◌≡◌, Bool, true, false, cond, not, ◌||◌, ℕ, zero, suc, ◌+◌, ◌≤◌, ◌<◌, get_or, eqb, leb, Option}
 use Rattle.std.proofs.Math.Path.{refl, ap}
 use Rattle.std.proofs.Common.{sym, ◌∙◌, true≢false, get_or-set_same, get_or-set_other}
 use Rattle.std.proofs.Math.Logic.{inl, inr}
@@ -20,7 +20,6 @@ use Rattle.model.specs.Calls.{Ask, put, puts, started, Fetching, held, staged, a
 use Rattle.model.specs.Refusals.{listed_once}
 use Rattle.model.specs.declared.Hash.{Hash}
 use Rattle.model.specs.declared.Entry.{Entry}
-use Rattle.model.specs.declared.Front.{Front}
 use Rattle.laws.specs.Numbers.{both, and_left, and_right}
 use Rattle.laws.specs.Every.{hold, all_first, all_rest, blocks_le}
 use Rattle.laws.specs.Bag.{weigh, one, weigh_one, pick_weigh}
@@ -48,7 +47,7 @@ abbrev pub Low : List Ask → Type 0
 Low [] = Unit {0}
 Low (a ∷ ks) = (a.height ≤ max_height) × Low ks
 
-not_there : {h : Hash} {l : List Entry} {f : Front} → Finding h l f → is_there f ≡ false → with_hash (key h) l ≡ 0
+not_there : {h : Hash} {l : List Entry} {f : Option Entry} → Finding h l f → is_there f ≡ false → with_hash (key h) l ≡ 0
 not_there (missing z) q = z
 not_there (at k p) q = absurd (true≢false q)
 

@@ -1,6 +1,6 @@
 -- Soundness of a window at the clock c, as facts on the window itself: what every step is to keep, and exactly what makes its words a window
 -- (`sound_words`, Words.antt). Each range stands for one test of the model's `valid`. Assumes nothing.
-use Rattle.std.specs.Prelude.{◌≡◌, true, List, [], ℕ, suc, ◌≤◌, ◌<◌, length, get_or}
+use Rattle.std.specs.Prelude.{◌≡◌, true, List, [], ℕ, suc, ◌≤◌, ◌<◌, length, get_or, None, Some, Option}
 use Rattle.model.specs.Numbers.{max_clock, max_height, min_estimate, max_estimate, max_duration, max_pending, max_seat, max_front_mean}
 use Rattle.model.specs.Records.{sum}
 use Rattle.model.specs.Seats.{oldest}
@@ -9,16 +9,11 @@ use Rattle.model.specs.Window.{Window, Queue, HighWater, Races, Watch}
 use Rattle.model.specs.declared.Hash.{Hash}
 use Rattle.model.specs.declared.Entry.{Entry}
 use Rattle.model.specs.declared.Pace.{Pace}
-use Rattle.model.specs.declared.Source.{Source}
-use Rattle.model.specs.declared.Source.TheVariants.{Missing, From}
-use Rattle.model.specs.declared.Stall.{Stall}
-use Rattle.model.specs.declared.Stall.TheVariants.{Calm, Episode}
-use Rattle.model.specs.declared.Stuck.{Stuck}
-use Rattle.model.specs.declared.Stuck.TheVariants.{Moving, StuckAt}
+use Rattle.model.specs.declared.StallEpisode.{StallEpisode}
+use Rattle.model.specs.declared.StuckFrontier.{StuckFrontier}
 use Rattle.model.specs.declared.ColdFront.{ColdFront}
 use Rattle.model.specs.declared.ColdFront.TheVariants.{Idle, Waiting, Racing}
-use Rattle.model.specs.declared.Probe.{Probe}
-use Rattle.model.specs.declared.Probe.TheVariants.{NoProbe, Probing}
+use Rattle.model.specs.declared.PrefixProbe.{PrefixProbe}
 use Rattle.model.specs.declared.Observation.{Observation}
 use Rattle.model.specs.declared.Observation.TheVariants.{Unarmed, Armed, Swept}
 use Rattle.laws.specs.Entries.{Rising, Each}
@@ -64,9 +59,9 @@ pub record SoundPace (c : ℕ) (p : Pace) : Type 0 where
   pub advance : p.advance ≤ suc c
   pub wait : p.wait ≤ max_duration
 
-abbrev pub SoundSource : Source → Type 0
-SoundSource Missing = Unit {0}
-SoundSource (From s) = s ≤ max_seat
+abbrev pub SoundSource : Option ℕ → Type 0
+SoundSource None = Unit {0}
+SoundSource (Some s) = s ≤ max_seat
 
 abbrev pub SoundCold : ℕ → ColdFront → Type 0
 SoundCold c Idle = Unit {0}
@@ -74,9 +69,9 @@ SoundCold c (Waiting owner h since) = (owner ≤ max_seat) × (since ≤ c)
 SoundCold c (Racing owner alternate h) = (owner ≤ max_seat) × (alternate ≤ max_seat)
 
 -- without a probe there are no hashes and no racers
-abbrev pub SoundProbe : ℕ → Probe → List Hash → List ℕ → Type 0
-SoundProbe c NoProbe planned racers = (planned ≡ []) × Bounded 0 racers
-SoundProbe c (Probing owner accepted started) planned racers = (owner ≤ max_seat) × (accepted ≤ 255) × (started ≤ c) × (length planned ≤ 8)
+abbrev pub SoundProbe : ℕ → Option PrefixProbe → List Hash → List ℕ → Type 0
+SoundProbe c None planned racers = (planned ≡ []) × Bounded 0 racers
+SoundProbe c (Some p) planned racers = (p.owner ≤ max_seat) × (p.accepted ≤ 255) × (p.started ≤ c) × (length planned ≤ 8)
 
 pub record SoundRaces (c : ℕ) (r : Races) : Type 0 where
   pub cold : SoundCold c r.cold
@@ -86,13 +81,13 @@ pub record SoundRaces (c : ℕ) (r : Races) : Type 0 where
   pub racers : Bounded 256 r.racers
   pub attempted : SoundSource r.attempted
 
-abbrev pub SoundStall : ℕ → Stall → Type 0
-SoundStall c Calm = Unit {0}
-SoundStall c (Episode owner h since) = (owner ≤ max_seat) × (since ≤ c)
+abbrev pub SoundStall : ℕ → Option StallEpisode → Type 0
+SoundStall c None = Unit {0}
+SoundStall c (Some s) = (s.owner ≤ max_seat) × (s.since ≤ c)
 
-abbrev pub SoundStuck : ℕ → Stuck → Type 0
-SoundStuck c Moving = Unit {0}
-SoundStuck c (StuckAt height h since) = (height ≤ max_height) × (since ≤ c)
+abbrev pub SoundStuck : ℕ → Option StuckFrontier → Type 0
+SoundStuck c None = Unit {0}
+SoundStuck c (Some s) = (s.height ≤ max_height) × (s.since ≤ c)
 
 abbrev pub SoundObservation : Observation → Type 0
 SoundObservation Unarmed = Unit {0}

@@ -1,5 +1,5 @@
 -- The tests on a table, part by part, as facts on numbers and the other way round. Assumes nothing.
-use Rattle.std.specs.Prelude.{◌≡◌, refl, Bool, true, cond, List, [], ◌∷◌, ◌++◌, length, get_or, take, drop, replicate, eqb, leb, ltb}
+use Rattle.std.specs.Prelude.{◌≡◌, refl, Bool, true, cond, List, [], ◌∷◌, ◌++◌, length, get_or, take, drop, replicate, eqb, leb, ltb, None, Some, Option}
 use Rattle.std.proofs.Common.{inl, inr, arith, length-drop, length-take-le}
 use Rattle.std.proofs.lemmas.Bool.{false≢true}
 use Prim.Native.Nat.{ℕ, zero, suc, ◌+◌, ◌*◌, ◌≤◌, ◌<◌}
@@ -11,14 +11,11 @@ use Rattle.model.specs.Seats.{oldest}
 use Rattle.model.specs.Layout.{Table, blank, word, words_at, hash_at, is_0, zeros, time_ok, is_blank, entry_ok, less_first, rising, start_ok, starts_ok, stall_words, stall_of, stuck_words, stuck_of, cold_words, cold_of, observation_words, observation_of, probe_words, planned_words, probe_of, stall_ok, stuck_ok, cold_by, cold_ok, observation_by, observation_ok, probe_ok}
 use Rattle.model.specs.declared.Hash.{Hash}
 use Rattle.model.specs.declared.Entry.{Entry}
-use Rattle.model.specs.declared.Stall.{Stall}
-use Rattle.model.specs.declared.Stall.TheVariants.{Calm, Episode}
-use Rattle.model.specs.declared.Stuck.{Stuck}
-use Rattle.model.specs.declared.Stuck.TheVariants.{Moving, StuckAt}
+use Rattle.model.specs.declared.StallEpisode.{StallEpisode}
+use Rattle.model.specs.declared.StuckFrontier.{StuckFrontier}
 use Rattle.model.specs.declared.ColdFront.{ColdFront}
 use Rattle.model.specs.declared.ColdFront.TheVariants.{Idle, Waiting, Racing}
-use Rattle.model.specs.declared.Probe.{Probe}
-use Rattle.model.specs.declared.Probe.TheVariants.{NoProbe, Probing}
+use Rattle.model.specs.declared.PrefixProbe.{PrefixProbe}
 use Rattle.model.specs.declared.Observation.{Observation}
 use Rattle.model.specs.declared.Observation.TheVariants.{Unarmed, Armed, Swept}
 use Rattle.laws.specs.Numbers.{both, and_left, and_right}
@@ -160,21 +157,21 @@ module _ (t : Table) (c : ℕ) (e : word 2 t ≡ c) where
   time_is : (s : ℕ) → s ≤ suc c → time_ok s t ≡ true
   time_is s h = le-leb s (suc (word 2 t)) (omega arith)
 
-  pub stall_valid : (s : Stall) → words_at 27 6 t ≡ stall_words s → SoundStall c s → stall_ok t ≡ true
+  pub stall_valid : (s : Option StallEpisode) → words_at 27 6 t ≡ stall_words s → SoundStall c s → stall_ok t ≡ true
   unfolding stall_ok zeros every
-  stall_valid Calm q h = rw (word_is t 27 6 (replicate 6 0) q 0 (omega arith), q) (all_zeros 6)
-  stall_valid (Episode owner x since) q h =
-      let at = word_is t 27 6 (suc since ∷ owner ∷ hash_words x) q in
-      rw (at 0 (omega arith), at 1 (omega arith), ne_eqb (suc since) 0 (λ (z : suc since ≡ 0). omega arith))
-      (and_so (time_is (suc since) (omega arith)) (and_so (le-leb owner max_seat h.0) refl))
+  stall_valid None q h = rw (word_is t 27 6 (replicate 6 0) q 0 (omega arith), q) (all_zeros 6)
+  stall_valid (Some s) q h =
+      let at = word_is t 27 6 (suc s.since ∷ s.owner ∷ hash_words s.front) q in
+      rw (at 0 (omega arith), at 1 (omega arith), ne_eqb (suc s.since) 0 (λ (z : suc s.since ≡ 0). omega arith))
+      (and_so (time_is (suc s.since) (omega arith)) (and_so (le-leb s.owner max_seat h.0) refl))
 
-  pub stuck_valid : (s : Stuck) → words_at 33 6 t ≡ stuck_words s → SoundStuck c s → stuck_ok t ≡ true
+  pub stuck_valid : (s : Option StuckFrontier) → words_at 33 6 t ≡ stuck_words s → SoundStuck c s → stuck_ok t ≡ true
   unfolding stuck_ok zeros every
-  stuck_valid Moving q h = rw (word_is t 33 6 (replicate 6 0) q 0 (omega arith), q) (all_zeros 6)
-  stuck_valid (StuckAt height x since) q h =
-      let at = word_is t 33 6 (suc since ∷ height ∷ hash_words x) q in
-      rw (at 0 (omega arith), at 1 (omega arith), ne_eqb (suc since) 0 (λ (z : suc since ≡ 0). omega arith))
-      (and_so (time_is (suc since) (omega arith)) (and_so (le-leb height max_height h.0) refl))
+  stuck_valid None q h = rw (word_is t 33 6 (replicate 6 0) q 0 (omega arith), q) (all_zeros 6)
+  stuck_valid (Some s) q h =
+      let at = word_is t 33 6 (suc s.since ∷ s.height ∷ hash_words s.front) q in
+      rw (at 0 (omega arith), at 1 (omega arith), ne_eqb (suc s.since) 0 (λ (z : suc s.since ≡ 0). omega arith))
+      (and_so (time_is (suc s.since) (omega arith)) (and_so (le-leb s.height max_height h.0) refl))
 
   pub cold_valid : (s : ColdFront) → words_at 39 7 t ≡ cold_words s → SoundCold c s → cold_ok t ≡ true
   unfolding cold_ok zeros every
@@ -272,18 +269,18 @@ all_second : {A : Type 0} (p : A → Bool) (l m : List A) → all p (l ++ m) ≡
 all_second p [] m q = q
 all_second p (x ∷ l) m q = all_second p l m (all_rest p x (l ++ m) q)
 
-pub probe_valid : (t : Table) (c : ℕ) → word 2 t ≡ c → (p : Probe) (hs : List Hash) → words_at 61 4 t ≡ probe_words p (length hs) → words_at 65 32 t ≡ planned_words hs
+pub probe_valid : (t : Table) (c : ℕ) → word 2 t ≡ c → (p : Option PrefixProbe) (hs : List Hash) → words_at 61 4 t ≡ probe_words p (length hs) → words_at 65 32 t ≡ planned_words hs
     → SoundProbe c p hs t.racers → probe_ok t ≡ true
 unfolding probe_ok zeros every planned_words pad hashes_words
-probe_valid t c e NoProbe hs q k h =
+probe_valid t c e None hs q k h =
     let at = word_is t 61 4 (0 ∷ 0 ∷ length hs ∷ 0 ∷ []) q in
     let z : all is_0 (words_at 61 36 t) ≡ true =
     rw (words_join t 61 4 32, q, k, h.0) (all_zeros 36) in
     rw (at 0 (omega arith)) (and_so z (and_so (noughts_all t.racers h.1.most) refl))
-probe_valid t c e (Probing owner accepted started) hs q k h =
-    let at = word_is t 61 4 (suc started ∷ owner ∷ length hs ∷ accepted ∷ []) q in
-    rw (at 0 (omega arith), at 1 (omega arith), at 2 (omega arith), at 3 (omega arith), k, ne_eqb (suc started) 0 (λ (z : suc started ≡ 0). omega arith))
-    (and_so (time_is t c e (suc started) (omega arith)) (and_so (le-leb owner max_seat h.0) (and_so (le-leb (length hs) 8 h.3) (and_so (le-leb accepted 255 h.1) (and_so (padded_zero 32 hs) refl)))))
+probe_valid t c e (Some p) hs q k h =
+    let at = word_is t 61 4 (suc p.started ∷ p.owner ∷ length hs ∷ p.accepted ∷ []) q in
+    rw (at 0 (omega arith), at 1 (omega arith), at 2 (omega arith), at 3 (omega arith), k, ne_eqb (suc p.started) 0 (λ (z : suc p.started ≡ 0). omega arith))
+    (and_so (time_is t c e (suc p.started) (omega arith)) (and_so (le-leb p.owner max_seat h.0) (and_so (le-leb (length hs) 8 h.3) (and_so (le-leb p.accepted 255 h.1) (and_so (padded_zero 32 hs) refl)))))
 
 pub record ProbeFacts (t : Table) : Type 0 where
   pub none : word 61 t ≡ 0 → (word 62 t ≡ 0) × (word 64 t ≡ 0)

@@ -1,6 +1,6 @@
 -- Words that hold a window and nothing else, and the one way in which a step on words is a step on windows. No clock has a part in it: a call sets
 -- the last clock as its last step. Assumes nothing.
-use Rattle.std.specs.Prelude.{◌≡◌, true, List, [], ◌∷◌, ◌++◌, ℕ, suc, ◌-◌, ◌*◌, ◌≤◌, get_or, drop, replicate}
+use Rattle.std.specs.Prelude.{◌≡◌, true, List, [], ◌∷◌, ◌++◌, ℕ, suc, ◌-◌, ◌*◌, ◌≤◌, get_or, drop, replicate, None, Some, Option}
 use Rattle.std.proofs.Math.Path.{refl, sym, ap}
 use Rattle.std.proofs.Common.{subst, ◌∙◌, arith, length-take, take_at}
 use Rattle.std.proofs.Math.ListN.{length, take, length-append, length-replicate}
@@ -10,14 +10,11 @@ use Rattle.model.specs.Layout.{Table, is_window, rising, blank, decode, encode, 
 use Rattle.model.specs.Window.{Window, window, queue, races, watch}
 use Rattle.model.specs.declared.Hash.{Hash}
 use Rattle.model.specs.declared.Entry.{Entry}
-use Rattle.model.specs.declared.Stall.{Stall}
-use Rattle.model.specs.declared.Stall.TheVariants.{Calm, Episode}
-use Rattle.model.specs.declared.Stuck.{Stuck}
-use Rattle.model.specs.declared.Stuck.TheVariants.{Moving, StuckAt}
+use Rattle.model.specs.declared.StallEpisode.{StallEpisode}
+use Rattle.model.specs.declared.StuckFrontier.{StuckFrontier}
 use Rattle.model.specs.declared.ColdFront.{ColdFront}
 use Rattle.model.specs.declared.ColdFront.TheVariants.{Idle, Waiting, Racing}
-use Rattle.model.specs.declared.Probe.{Probe}
-use Rattle.model.specs.declared.Probe.TheVariants.{NoProbe, Probing}
+use Rattle.model.specs.declared.PrefixProbe.{PrefixProbe}
 use Rattle.model.specs.declared.Observation.{Observation}
 use Rattle.model.specs.declared.Observation.TheVariants.{Unarmed, Armed, Swept}
 use Rattle.laws.specs.Tables.{Sized, sized_decode, words_are, decode_flat, length_flat}
@@ -55,13 +52,13 @@ pub record Holds (w : Window) (ws : List ℕ) : Type 0 where
 
 -- ---- the lengths of the head's groups
 
-pub length_stall : (x : Stall) → length (stall_words x) ≡ 6
-length_stall Calm = refl
-length_stall (Episode owner h since) = refl
+pub length_stall : (x : Option StallEpisode) → length (stall_words x) ≡ 6
+length_stall None = refl
+length_stall (Some s) = refl
 
-pub length_stuck : (x : Stuck) → length (stuck_words x) ≡ 6
-length_stuck Moving = refl
-length_stuck (StuckAt height h since) = refl
+pub length_stuck : (x : Option StuckFrontier) → length (stuck_words x) ≡ 6
+length_stuck None = refl
+length_stuck (Some s) = refl
 
 pub length_cold : (x : ColdFront) → length (cold_words x) ≡ 7
 length_cold Idle = refl
@@ -73,9 +70,9 @@ length_observation Unarmed = refl
 length_observation (Armed owner h) = refl
 length_observation (Swept owner h) = refl
 
-pub length_probe : (x : Probe) (n : ℕ) → length (probe_words x n) ≡ 4
-length_probe NoProbe n = refl
-length_probe (Probing owner accepted started) n = refl
+pub length_probe : (x : Option PrefixProbe) (n : ℕ) → length (probe_words x n) ≡ 4
+length_probe None n = refl
+length_probe (Some p) n = refl
 
 pub length_hedged : (hs : List Hash) → length hs ≤ 2 → length (hedged_words hs) ≡ 9
 unfolding hedged_words
@@ -86,9 +83,9 @@ unfolding planned_words
 length_planned hs h = length_padded 32 hs (omega arith)
 
 -- the count of a probe's hashes is its third word
-third : (x : Probe) (n : ℕ) → get_or (probe_words x n) 2 0 ≡ n
-third NoProbe n = refl
-third (Probing owner accepted started) n = refl
+third : (x : Option PrefixProbe) (n : ℕ) → get_or (probe_words x n) 2 0 ≡ n
+third None n = refl
+third (Some p) n = refl
 
 -- ---- a window of these lengths, to its table and back
 

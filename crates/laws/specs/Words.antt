@@ -1,6 +1,6 @@
 -- WORDS AND WINDOWS. Words that count as a window are the words of the window that is read from them, and that window is sound; the words of a sound
 -- window count as one and read back. Assumes nothing.
-use Rattle.std.specs.Prelude.{◌≡◌, Bool, false, ℕ, zero, suc, ◌+◌, ◌-◌, ◌*◌, ◌≤◌, get_or, leb}
+use Rattle.std.specs.Prelude.{◌≡◌, Bool, false, ℕ, zero, suc, ◌+◌, ◌-◌, ◌*◌, ◌≤◌, get_or, leb, None, Some, Option}
 use Rattle.std.proofs.Math.Path.{refl, sym, ap}
 use Rattle.std.proofs.Common.{◌∙◌, length-append, take_at, drop_at, take_all, eqb-true, eq-eqb, leb-true, le-leb}
 use Rattle.std.proofs.Math.Bool.{true}
@@ -17,16 +17,11 @@ use Rattle.model.specs.Window.{Window}
 use Rattle.model.specs.Layout.{Table, blank, decode, flat, table, read, word, words_at, hash_at, live, settings_words, settings_of, counts_words, small_words, head_words, flag_word, source_word, source_of, stall_words, stall_of, stuck_words, stuck_of, cold_words, cold_of, hedged_words, observation_words, observation_of, probe_words, probe_of, planned_words, format, is_0, settings_ok, counts_ok, small_ok, zeros, hedged_ok, head_ok, is_blank, entry_ok, rising, starts_ok, tables_ok, records_ok, valid, encode, window_of, is_window}
 use Rattle.model.specs.declared.Hash.{Hash}
 use Rattle.model.specs.declared.Entry.{Entry}
-use Rattle.model.specs.declared.Source.{Source}
-use Rattle.model.specs.declared.Source.TheVariants.{Missing, From}
-use Rattle.model.specs.declared.Stall.{Stall}
-use Rattle.model.specs.declared.Stall.TheVariants.{Calm, Episode}
-use Rattle.model.specs.declared.Stuck.{Stuck}
-use Rattle.model.specs.declared.Stuck.TheVariants.{Moving, StuckAt}
+use Rattle.model.specs.declared.StallEpisode.{StallEpisode}
+use Rattle.model.specs.declared.StuckFrontier.{StuckFrontier}
 use Rattle.model.specs.declared.ColdFront.{ColdFront}
 use Rattle.model.specs.declared.ColdFront.TheVariants.{Idle, Waiting, Racing}
-use Rattle.model.specs.declared.Probe.{Probe}
-use Rattle.model.specs.declared.Probe.TheVariants.{NoProbe, Probing}
+use Rattle.model.specs.declared.PrefixProbe.{PrefixProbe}
 use Rattle.model.specs.declared.Observation.{Observation}
 use Rattle.model.specs.declared.Observation.TheVariants.{Unarmed, Armed, Swept}
 use Rattle.laws.specs.Every.{hold, and_so}
@@ -49,13 +44,13 @@ pub record Groups (w : Window) : Type 0 where
   pub rest : words_at 97 415 (table w) ≡ replicate 415 0
   pub long : length (table w).head ≡ 512
 
-six_stall : (s : Stall) → length (stall_words s) ≡ 6
-six_stall Calm = refl
-six_stall (Episode owner h since) = refl
+six_stall : (s : Option StallEpisode) → length (stall_words s) ≡ 6
+six_stall None = refl
+six_stall (Some s) = refl
 
-six_stuck : (s : Stuck) → length (stuck_words s) ≡ 6
-six_stuck Moving = refl
-six_stuck (StuckAt height h since) = refl
+six_stuck : (s : Option StuckFrontier) → length (stuck_words s) ≡ 6
+six_stuck None = refl
+six_stuck (Some s) = refl
 
 seven_cold : (s : ColdFront) → length (cold_words s) ≡ 7
 seven_cold Idle = refl
@@ -67,13 +62,13 @@ six_observation Unarmed = refl
 six_observation (Armed owner h) = refl
 six_observation (Swept owner h) = refl
 
-four_probe : (p : Probe) (n : ℕ) → length (probe_words p n) ≡ 4
-four_probe NoProbe n = refl
-four_probe (Probing owner accepted started) n = refl
+four_probe : (p : Option PrefixProbe) (n : ℕ) → length (probe_words p n) ≡ 4
+four_probe None n = refl
+four_probe (Some p) n = refl
 
-planned_few : (c : ℕ) (p : Probe) (hs : List Hash) (rs : List ℕ) → SoundProbe c p hs rs → length hs ≤ 8
-planned_few c NoProbe hs rs h = omega (arith, ap length h.0)
-planned_few c (Probing owner accepted started) hs rs h = h.3
+planned_few : (c : ℕ) (p : Option PrefixProbe) (hs : List Hash) (rs : List ℕ) → SoundProbe c p hs rs → length hs ≤ 8
+planned_few c None hs rs h = omega (arith, ap length h.0)
+planned_few c (Some p) hs rs h = h.3
 
 groups : {c : ℕ} (w : Window) → Sound c w → Groups w
 unfolding table head_words counts_words settings_words small_words hedged_words planned_words words_at word
@@ -144,9 +139,9 @@ read_table {c} w g =
       };
     }
   where
-    planned_count : (p : Probe) (n : ℕ) → get_or (probe_words p n) 2 0 ≡ n
-    planned_count NoProbe n = refl
-    planned_count (Probing owner accepted started) n = refl
+    planned_count : (p : Option PrefixProbe) (n : ℕ) → get_or (probe_words p n) 2 0 ≡ n
+    planned_count None n = refl
+    planned_count (Some p) n = refl
 
     count : word 63 (table w) ≡ length w.races.planned
     count = word_is (table w) 61 4 _ (groups w g).probe 2 (omega arith) ∙ planned_count w.races.probe (length w.races.planned)
@@ -154,9 +149,9 @@ read_table {c} w g =
     said : take (length w.races.planned) (hashes_in (planned_words w.races.planned)) ≡ w.races.planned
     said = hashes_said_32 w.races.planned
 
-source_le : (s : Source) → SoundSource s → source_word s ≤ suc max_seat
-source_le Missing h = omega arith
-source_le (From s) h = omega arith
+source_le : (s : Option ℕ) → SoundSource s → source_word s ≤ suc max_seat
+source_le None h = omega arith
+source_le (Some s) h = omega arith
 
 flag_le : (b : Bool) → flag_word b ≤ 1
 flag_le true = omega arith

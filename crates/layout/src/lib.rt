@@ -9,7 +9,7 @@ ghost use Rattle.model.specs.Places.{head_max_pending_blocks, head_fanout_eligib
 ghost use Rattle.laws.specs.Tables.{with_words};
 ghost use Rattle.layout.specs.Head.{fanout_of, fanout_list, pace_list};
 
-use model::{Fanout, Hash, Pace, Settings, Source, at, head, sizes};
+use model::{Fanout, Hash, Pace, Settings, at, head, sizes};
 
 // ---- single words
 
@@ -153,27 +153,24 @@ pub fn store_pace(words: &mut [u64], p: Pace)
 // ---- seats that may be missing
 
 // `source_of`
-fn source_of(s: u64) -> Source
+fn source_of(s: u64) -> Option<u64>
     ensures { result ≡ source_of s }
 {
-    if s == 0 {
-        return Source::Missing;
-    }
-    Source::From(s - 1)
+    s.checked_sub(1)
 }
 
 // `source_word`
-fn source_word(s: Source) -> u64
+fn source_word(s: Option<u64>) -> u64
     requires { source_word s ≤ 256 }
     ensures { result ≡ source_word s }
 {
     match s {
-        Source::Missing => 0,
-        Source::From(seat) => seat + 1,
+        None => 0,
+        Some(seat) => seat + 1,
     }
 }
 
-pub fn load_preferred(words: &[u64]) -> Source
+pub fn load_preferred(words: &[u64]) -> Option<u64>
     requires { length words.now ≡ 4096 }
     ensures { result ≡ source_of (word head_preferred (decode words.now)) }
 {
@@ -181,7 +178,7 @@ pub fn load_preferred(words: &[u64]) -> Source
     source_of(s)
 }
 
-pub fn store_preferred(words: &mut [u64], s: Source)
+pub fn store_preferred(words: &mut [u64], s: Option<u64>)
     requires { (length words.old ≡ 4096) × (source_word s ≤ 256) }
     ensures { decode words.new ≡ with_words head_preferred (source_word s ∷ []) (decode words.old) }
 {
@@ -189,7 +186,7 @@ pub fn store_preferred(words: &mut [u64], s: Source)
     set_word(words, head::PREFERRED, v);
 }
 
-pub fn load_attempted(words: &[u64]) -> Source
+pub fn load_attempted(words: &[u64]) -> Option<u64>
     requires { length words.now ≡ 4096 }
     ensures { result ≡ source_of (word head_attempted (decode words.now)) }
 {
@@ -197,7 +194,7 @@ pub fn load_attempted(words: &[u64]) -> Source
     source_of(s)
 }
 
-pub fn store_attempted(words: &mut [u64], s: Source)
+pub fn store_attempted(words: &mut [u64], s: Option<u64>)
     requires { (length words.old ≡ 4096) × (source_word s ≤ 256) }
     ensures { decode words.new ≡ with_words head_attempted (source_word s ∷ []) (decode words.old) }
 {

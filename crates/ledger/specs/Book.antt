@@ -1,13 +1,10 @@
 -- The book that a program keeps beside a window: sums of 64 bits that stop at the top, what a report lets go by reason, and the verdict.
-use Rattle.std.specs.Prelude.{Bool, true, false, cond, ◌&&◌, List, [], ◌∷◌, ℕ, zero, suc, ◌+◌, ◌*◌, eqb, leb, get_or, set, replicate}
+use Rattle.std.specs.Prelude.{Bool, true, false, cond, ◌&&◌, List, [], ◌∷◌, ℕ, zero, suc, ◌+◌, ◌*◌, eqb, leb, get_or, set, replicate, Result, Ok, Err}
 use Rattle.model.specs.Numbers.{lesser}
-use Rattle.model.specs.declared.Number.{Number}
-use Rattle.model.specs.declared.Number.TheVariants.{Refused as Number-as-Refused, Is}
-use Rattle.model.specs.declared.Requested.{Requested}
-use Rattle.model.specs.declared.Requested.TheVariants.{Refused as Requested-as-Refused, Full, Room}
 use Rattle.model.specs.declared.Fetch.{Fetch}
-use Rattle.model.specs.declared.Fetch.TheVariants.{Refused as Fetch-as-Refused, Held, Staged, Asked, NoCapacity}
+use Rattle.model.specs.declared.Fetch.TheVariants.{Held, Staged, Asked, NoCapacity}
 use Rattle.ledger.specs.declared.Book.{Book}
+use Rattle.model.specs.declared.Refusal.{Refusal}
 
 unfoldable pub capped : ℕ → ℕ → ℕ
 capped a b = lesser (a + b) 18446744073709551615
@@ -49,9 +46,9 @@ abbrev pub balanced : ℕ → ℕ → ℕ → ℕ → ℕ → ℕ → Bool
 balanced opened gone pending opened_bytes gone_bytes pending_bytes = adds_up opened gone pending && adds_up opened_bytes gone_bytes pending_bytes
 
 -- what a query answers, 0 where it is refused
-abbrev pub value : Number → ℕ
-value (Number-as-Refused k) = 0
-value (Is x) = x
+abbrev pub value : Result ℕ Refusal → ℕ
+value (Err r) = 0
+value (Ok x) = x
 
 abbrev pub empty : Book
 empty = record { blocks = 0; bytes = 0; gone = replicate 11 0; gone_bytes = replicate 11 0 }
@@ -61,18 +58,17 @@ unfoldable pub opened : Book → ℕ → ℕ → Book
 opened b n estimate = record { blocks = added b.blocks 1 n; bytes = added b.bytes estimate n; gone = b.gone; gone_bytes = b.gone_bytes }
 
 -- how many of the n blocks of a request its answer says were opened
-abbrev pub of_request : Requested → ℕ → ℕ
-of_request (Requested-as-Refused k) n = 0
-of_request Full n = n
-of_request Room n = n
+abbrev pub of_request : Result Bool Refusal → ℕ → ℕ
+of_request (Err r) n = 0
+of_request (Ok room) n = n
 
 -- a fetch is of one block
-abbrev pub of_fetch : Fetch → ℕ
-of_fetch (Fetch-as-Refused n) = 0
-of_fetch Held = 0
-of_fetch Staged = 0
-of_fetch Asked = 1
-of_fetch NoCapacity = 0
+abbrev pub of_fetch : Result Fetch Refusal → ℕ
+of_fetch (Err r) = 0
+of_fetch (Ok Held) = 0
+of_fetch (Ok Staged) = 0
+of_fetch (Ok Asked) = 1
+of_fetch (Ok NoCapacity) = 0
 
 -- what the first n of a report's 256 places let go
 unfoldable pub let_go : Book → List ℕ → ℕ → Book

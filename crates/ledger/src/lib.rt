@@ -6,7 +6,7 @@ ghost use Rattle.std.specs.Prelude.{◌≡◌, ◌≤◌};
 ghost use Rattle.model.specs.Numbers.{lesser};
 ghost use Rattle.ledger.specs.Book.{capped, added, capped_sum, place_of, weight, one_more, tallied, adds_up, balanced, value, empty, opened, of_request, of_fetch, let_go, column};
 
-use model::{Fetch, Number, Requested, of_release, sizes};
+use model::{Fetch, Refusal, of_release, sizes};
 
 // What was opened, and what was let go by reason, in blocks and in bytes.
 #[derive(Clone, Copy)]
@@ -18,13 +18,10 @@ pub struct Book {
 }
 
 // What a query answers, 0 where it is refused.
-pub fn value(n: Number) -> u64
+pub fn value(n: Result<u64, Refusal>) -> u64
     ensures { result ≡ value n }
 {
-    match n {
-        Number::Refused(k) => 0,
-        Number::Is(x) => x,
-    }
+    n.unwrap_or(0)
 }
 
 pub fn empty() -> Book
@@ -38,27 +35,11 @@ pub fn empty() -> Book
     }
 }
 
-// A sum that stops at the top of 64 bits.
-fn plus(a: u64, b: u64) -> u64
-    ensures { result ≡ capped a b }
-{
-    if a > 18446744073709551615 - b {
-        return 18446744073709551615;
-    }
-    a + b
-}
-
-// The same number added n times: so many blocks were opened, each with this estimate.
+// The same number added n times, up to the top of 64 bits: so many blocks were opened, each with this estimate.
 fn add(a: u64, by: u64, n: u64) -> u64
     ensures { result ≡ added a by n }
 {
-    let mut s = a;
-    let mut i: u64 = 0;
-    while i < n {
-        s = plus(s, by);
-        i += 1;
-    }
-    s
+    a.saturating_add(by.saturating_mul(n))
 }
 
 fn place_of(reason: u64) -> usize
@@ -84,7 +65,7 @@ fn one_more(l: [u64; 11], reason: u64, by: u64) -> [u64; 11]
 {
     let k = place_of(reason);
     let mut m = l;
-    m[k] = plus(l[k], by);
+    m[k] = l[k].saturating_add(by);
     m
 }
 
@@ -93,9 +74,7 @@ fn tally(l: [u64; 11], gone: [u64; sizes::REPORT_WORDS], n: usize, bytes: bool) 
     ensures { result ≡ tallied bytes gone (lesser n 256) l }
 {
     let mut m = l;
-    let most = at_most(n);
-    let mut i: usize = 0;
-    while i < most {
+    for i in 0..at_most(n) {
         let k = sizes::RELEASE_WORDS * i;
         let x = one_more(
             m,
@@ -103,7 +82,6 @@ fn tally(l: [u64; 11], gone: [u64; sizes::REPORT_WORDS], n: usize, bytes: bool) 
             weight(bytes, gone[k + of_release::ESTIMATE]),
         );
         m = x;
-        i += 1;
     }
     m
 }
@@ -121,11 +99,9 @@ fn at_most(n: usize) -> usize
 fn sum(l: [u64; 11]) -> u64
     ensures { result ≡ capped_sum 11 l }
 {
-    let mut s = 0;
-    let mut i: usize = 0;
-    while i < 11 {
-        s = plus(s, l[i]);
-        i += 1;
+    let mut s: u64 = 0;
+    for x in l {
+        s = s.saturating_add(x);
     }
     s
 }
@@ -171,30 +147,23 @@ fn opened(b: Book, n: u64, estimate: u64) -> Book
 }
 
 // How many of the n blocks of a request were opened.
-fn of_request(answer: Requested, n: u64) -> u64
+fn of_request(answer: Result<bool, Refusal>, n: u64) -> u64
     ensures { result ≡ of_request answer n }
 {
-    match answer {
-        Requested::Refused(k) => 0,
-        Requested::Full => n,
-        Requested::Room => n,
-    }
+    if answer.is_ok() { n } else { 0 }
 }
 
-fn of_fetch(answer: Fetch) -> u64
+fn of_fetch(answer: Result<Fetch, Refusal>) -> u64
     ensures { result ≡ of_fetch answer }
 {
     match answer {
-        Fetch::Refused(n) => 0,
-        Fetch::Held => 0,
-        Fetch::Staged => 0,
-        Fetch::Asked => 1,
-        Fetch::NoCapacity => 0,
+        Ok(Fetch::Asked) => 1,
+        _ => 0,
     }
 }
 
 // A request of n blocks; the mean that the window said before it is the estimate of each.
-pub fn requested(b: Book, answer: Requested, n: u64, mean: Number) -> Book
+pub fn requested(b: Book, answer: Result<bool, Refusal>, n: u64, mean: Result<u64, Refusal>) -> Book
     ensures { result ≡ opened b (of_request answer n) (value mean) }
 {
     let blocks = of_request(answer, n);
@@ -202,7 +171,7 @@ pub fn requested(b: Book, answer: Requested, n: u64, mean: Number) -> Book
 }
 
 // A fetch of one block.
-pub fn fetched(b: Book, answer: Fetch, mean: Number) -> Book
+pub fn fetched(b: Book, answer: Result<Fetch, Refusal>, mean: Result<u64, Refusal>) -> Book
     ensures { result ≡ opened b (of_fetch answer) (value mean) }
 {
     let blocks = of_fetch(answer);

@@ -1,5 +1,5 @@
 -- What every call that lets go promises, before its report is written: generic over the call. Assumes nothing.
-use Rattle.std.specs.Prelude.{◌≡◌, refl, Bool, true, false, not, ◌||◌, List, [], ◌∷◌, ◌++◌, ℕ, zero, suc, ◌*◌, ◌≤◌, ◌<◌, length, drop, ltb}
+use Rattle.std.specs.Prelude.{◌≡◌, refl, Bool, true, false, not, ◌||◌, List, [], ◌∷◌, ◌++◌, ℕ, zero, suc, ◌*◌, ◌≤◌, ◌<◌, length, drop, ltb, Option, None, Some, Result, IsErrAnd}
 use Rattle.std.proofs.Math.Path.{sym, ap}
 use Rattle.std.proofs.Common.{subst, ◌∙◌, inl, inr}
 use native.Mathlib.Omega.{arith}
@@ -14,17 +14,17 @@ use Rattle.model.specs.Seats.{keep_seats}
 use Rattle.model.specs.Lists.{count}
 use Rattle.model.specs.LettingGo.{take_out, remove_pending, extract, seats_kept, retain_peer_assignments, cold_kept, peer_kept, probe_kept, roles_kept, flagged, retain_owned_by}
 use Rattle.model.specs.Calls.{is_owner, rejected_by, reject_delivery}
+use Rattle.model.specs.Says.{number, says_by}
+use Rattle.model.specs.declared.Refusal.{Refusal}
 use Rattle.model.specs.declared.Hash.{Hash}
 use Rattle.model.specs.declared.Release.{Release}
-use Rattle.model.specs.declared.Source.{Source}
-use Rattle.model.specs.declared.Front.{Front}
-use Rattle.model.specs.declared.Front.TheVariants.{Nothing, At}
-use Rattle.model.specs.declared.Probe.{Probe}
-use Rattle.model.specs.declared.Probe.TheVariants.{NoProbe, Probing}
+use Rattle.model.specs.declared.PrefixProbe.{PrefixProbe}
 use Rattle.laws.specs.Numbers.{both}
 use Rattle.laws.specs.Whole.{Whole, Holds}
 use Rattle.refusals.specs.Outcomes.{leaves_refused, leaves_changed, performs, admitted, clock_set}
+use Rattle.refusals.specs.Passed.{number_some, says_refused}
 use Rattle.report_words.specs.Report.{releases_of, length_releases}
+use Rattle.model.specs.declared.Entry.{Entry}
 
 -- how many places of the report an answer counts
 abbrev pub places : Answer → ℕ
@@ -95,13 +95,18 @@ module _ (size : ℕ) (x : Change) (ws : List ℕ) (room n : ℕ) (e : n ≡ win
           a
           (subst (λ (t : ℕ). a ≡ says k (change x t (window_of ws)).values) back q)
 
+-- a refusal that `?` hands on
+module _ {A : Type 0} (r : Result A Refusal) (e : Refusal) (told : IsErrAnd r (λ f. f ≡ e)) where
+  pub lets_passed : (f : A → Answer) (size : ℕ) (x : Change) (ws : List ℕ) (room : ℕ) (gone : List ℕ) → number e ≡ window_refusal (checks x) ws room → LetsGo size x ws room (says_by f r) ws gone
+  lets_passed f size x ws room gone h = rw (says_refused r e told f) (lets_refused size x ws room (number e) h gone (number_some e))
+
 -- ---- a single removal lets go at most one
 
-one_out : (reason now : ℕ) (f : Front) (w : Window) → length (take_out reason now f w).gone ≤ 1
-one_out reason now Nothing w = omega arith
-one_out reason now (At e) w = omega arith
+one_out : (reason now : ℕ) (f : Option Entry) (w : Window) → length (take_out reason now f w).gone ≤ 1
+one_out reason now None w = omega arith
+one_out reason now (Some e) w = omega arith
 
-pub rejected_few : (h : Hash) (source : Source) (now : ℕ) (w : Window) → length (reject_delivery h source now w).gone ≤ 1
+pub rejected_few : (h : Hash) (source : Option ℕ) (now : ℕ) (w : Window) → length (reject_delivery h source now w).gone ≤ 1
 unfolding reject_delivery remove_pending
 rejected_few h source now w =
     let v = rejected_by source h w in
@@ -109,9 +114,9 @@ rejected_few h source now w =
 
 -- ---- dropping seats leaves the clock
 
-probe_clock : (owns : ℕ → Bool) (p : Probe) (racers : List ℕ) (w : Window) → (probe_kept owns p racers w).clock ≡ w.clock
-probe_clock owns NoProbe racers w = refl
-probe_clock owns (Probing owner accepted started) racers w = elim (both (not (owns owner) || ltb (count present racers) 2)) [ inl q ↦ rw q refl | inr q ↦ rw q refl ]
+probe_clock : (owns : ℕ → Bool) (p : Option PrefixProbe) (racers : List ℕ) (w : Window) → (probe_kept owns p racers w).clock ≡ w.clock
+probe_clock owns None racers w = refl
+probe_clock owns (Some p) racers w = elim (both (not (owns p.owner) || ltb (count present racers) 2)) [ inl q ↦ rw q refl | inr q ↦ rw q refl ]
 
 pub retain_clock : (flags : List ℕ) (w : Window) → (retain_owned_by flags w).window.clock ≡ w.clock
 unfolding retain_owned_by retain_peer_assignments extract seats_kept roles_kept

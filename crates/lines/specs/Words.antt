@@ -1,23 +1,18 @@
 -- The words of the demo: names of calls, answers in short, reasons in full, and the verdict on the book.
-use Rattle.std.specs.Prelude.{Bool, true, false, cond, List, [], ◌∷◌, ℕ, ◌-◌, leb}
+use Rattle.std.specs.Prelude.{Bool, true, false, cond, List, [], ◌∷◌, ℕ, ◌-◌, leb, Option, None, Some, Result, Ok, Err, ⊤}
 use Rattle.lines.specs.Cells.{bytes}
-use Rattle.model.specs.declared.Accepted.{Accepted}
-use Rattle.model.specs.declared.Accepted.TheVariants.{Refused as Accepted-as-Refused, Done}
-use Rattle.model.specs.declared.Requested.{Requested}
-use Rattle.model.specs.declared.Requested.TheVariants.{Refused as Requested-as-Refused, Full, Room}
 use Rattle.model.specs.declared.Fetch.{Fetch}
-use Rattle.model.specs.declared.Fetch.TheVariants.{Refused as Fetch-as-Refused, Held, Staged, Asked, NoCapacity}
-use Rattle.model.specs.declared.LetGo.{LetGo}
-use Rattle.model.specs.declared.LetGo.TheVariants.{Refused as LetGo-as-Refused, Gone}
+use Rattle.model.specs.declared.Fetch.TheVariants.{Held, Staged, Asked, NoCapacity}
 use Rattle.model.specs.declared.Received.{Received}
-use Rattle.model.specs.declared.Received.TheVariants.{Refused as Received-as-Refused, Unasked, Expected}
 use Rattle.model.specs.declared.Rejected.{Rejected}
-use Rattle.model.specs.declared.Rejected.TheVariants.{Refused as Rejected-as-Refused, ReleasedPending, DiscardedUnsolicited}
+use Rattle.model.specs.declared.Rejected.TheVariants.{ReleasedPending, DiscardedUnsolicited}
 use Rattle.model.specs.declared.Blocked.{Blocked}
-use Rattle.model.specs.declared.Blocked.TheVariants.{Refused as Blocked-as-Refused, NoDecision, BlameStaller, BlamePendingTimeout, EvictStaged, HedgeColdFront}
+use Rattle.model.specs.declared.Blocked.TheVariants.{NoDecision, BlameStaller, BlamePendingTimeout, EvictStaged, HedgeColdFront}
 use Rattle.model.specs.declared.NextRequest.{NextRequest}
-use Rattle.model.specs.declared.NextRequest.TheVariants.{Refused as NextRequest-as-Refused, NoRequest, Request}
+use Rattle.model.specs.declared.Request.{Request}
 use Rattle.lines.specs.declared.Said.{Said}
+use Rattle.model.specs.declared.Refusal.{Refusal}
+use Rattle.model.specs.Says.{number}
 
 abbrev pub calls : List (List ℕ)
 calls =
@@ -134,53 +129,60 @@ counted h n t = record { head = h; counts = true; number = n; refuses = false; t
 abbrev pub refused : ℕ → Said
 refused n = record { head = 1; counts = true; number = n; refuses = true; tail = n }
 
-abbrev pub accepted : Accepted → Said
-accepted (Accepted-as-Refused n) = refused n
-accepted Done = plain 0 0
+abbrev pub accepted : Result ⊤ Refusal → Said
+accepted (Err r) = refused (number r)
+accepted (Ok u) = plain 0 0
 
 -- n blocks were in the list
-abbrev pub requested : Requested → ℕ → Said
-requested (Requested-as-Refused k) n = refused k
-requested Full n = counted 2 n 13
-requested Room n = counted 2 n 12
+abbrev pub requested : Result Bool Refusal → ℕ → Said
+requested (Err r) n = refused (number r)
+requested (Ok false) n = counted 2 n 13
+requested (Ok true) n = counted 2 n 12
 
-abbrev pub fetched : Fetch → Said
-fetched (Fetch-as-Refused n) = refused n
-fetched Held = plain 3 11
-fetched Staged = plain 4 0
-fetched Asked = counted 2 1 0
-fetched NoCapacity = plain 5 0
+abbrev pub fetched : Result Fetch Refusal → Said
+fetched (Err r) = refused (number r)
+fetched (Ok Held) = plain 3 11
+fetched (Ok Staged) = plain 4 0
+fetched (Ok Asked) = counted 2 1 0
+fetched (Ok NoCapacity) = plain 5 0
 
 -- why the first place of the report was let go
-abbrev pub let_go : LetGo → ℕ → Said
-let_go (LetGo-as-Refused n) why = refused n
-let_go (Gone n) why = counted 6 n why
+abbrev pub let_go : Result ℕ Refusal → ℕ → Said
+let_go (Err r) why = refused (number r)
+let_go (Ok n) why = counted 6 n why
 
 -- a report of n places, the first of them delivered
 abbrev pub got : ℕ → ℕ → Said
 got n why = cond (leb n 1) (plain 7 0) (counted 8 (n - 1) why)
 
+-- a body that was not asked for, or one that was
+abbrev pub received_by : Option ℕ → ℕ → ℕ → Said
+received_by None n why = plain 9 0
+received_by (Some height) n why = got n why
+
 -- why the second place of the report was let go
-abbrev pub received : Received → ℕ → Said
-received (Received-as-Refused n) why = refused n
-received (Unasked n) why = plain 9 0
-received (Expected n height) why = got n why
+abbrev pub received : Result Received Refusal → ℕ → Said
+received (Err r) why = refused (number r)
+received (Ok d) why = received_by d.height d.places why
 
-abbrev pub rejected : Rejected → Said
-rejected (Rejected-as-Refused n) = refused n
-rejected (ReleasedPending n) = counted 6 n 2
-rejected DiscardedUnsolicited = plain 9 14
+abbrev pub rejected : Result Rejected Refusal → Said
+rejected (Err r) = refused (number r)
+rejected (Ok (ReleasedPending n)) = counted 6 n 2
+rejected (Ok DiscardedUnsolicited) = plain 9 14
 
-abbrev pub blocked : Blocked → Said
-blocked (Blocked-as-Refused n) = refused n
-blocked NoDecision = plain 10 0
-blocked (BlameStaller seat) = counted 11 seat 15
-blocked (BlamePendingTimeout seat) = counted 11 seat 16
-blocked (EvictStaged height h waited) = counted 12 height 17
-blocked (HedgeColdFront seat h) = counted 13 seat 18
+abbrev pub blocked : Result Blocked Refusal → Said
+blocked (Err r) = refused (number r)
+blocked (Ok NoDecision) = plain 10 0
+blocked (Ok (BlameStaller seat)) = counted 11 seat 15
+blocked (Ok (BlamePendingTimeout seat)) = counted 11 seat 16
+blocked (Ok (EvictStaged height h waited)) = counted 12 height 17
+blocked (Ok (HedgeColdFront seat h)) = counted 13 seat 18
+
+abbrev pub planned_by : Option Request → ℕ → Said
+planned_by None why = plain 15 why
+planned_by (Some p) why = counted 14 p.count why
 
 -- how many blocks; why the first place of the report was let go
-abbrev pub planned : NextRequest → ℕ → Said
-planned (NextRequest-as-Refused n) why = refused n
-planned (NoRequest places) why = plain 15 why
-planned (Request places n next) why = counted 14 n why
+abbrev pub planned : Result NextRequest Refusal → ℕ → Said
+planned (Err r) why = refused (number r)
+planned (Ok n) why = planned_by n.request why

@@ -37,11 +37,9 @@ pub fn grouped(n: u64) -> [u8; 26]
 {
     let mut l: [u8; 26] = [b' '; 26];
     let mut rest = n;
-    let mut k: usize = 0;
-    while k < 26 {
+    for k in 0..26 {
         l[25 - k] = byte_of(k as u64, rest);
         rest = rest_of(k as u64, rest);
-        k += 1;
     }
     l
 }
@@ -61,11 +59,7 @@ pub(crate) fn put(line: [u8; 81], place: usize, s: &[u8]) -> [u8; 81]
     ensures { result ≡ put place s.now line }
 {
     let mut l = line;
-    let mut k: usize = 0;
-    while k < s.len() {
-        l[place + k] = s[k];
-        k += 1;
-    }
+    l[place..place + s.len()].copy_from_slice(s);
     l
 }
 

@@ -1,10 +1,10 @@
 // The words of the demo. An answer is a head, a number or none, and a tail.
 ghost use Rattle.std.specs.Prelude.{◌≡◌, [], ◌≤◌, get_or};
 ghost use Rattle.model.specs.Numbers.{lesser};
-ghost use Rattle.lines.specs.Words.{calls, heads, tails, refusals, entries, verdicts, accepted, requested, fetched, let_go, got, received, rejected, blocked, planned};
+ghost use Rattle.lines.specs.Words.{calls, heads, tails, refusals, entries, verdicts, refused, accepted, requested, fetched, let_go, got, received, rejected, blocked, planned};
 
 use crate::Said;
-use model::{Accepted, Blocked, Fetch, LetGo, NextRequest, Received, Rejected, Requested};
+use model::{Blocked, Fetch, NextRequest, Received, Refusal, Rejected, Request};
 
 const CALLS: [[u8; 25]; 16] = [
     *b"open                     ",
@@ -158,18 +158,25 @@ pub fn verdict(right: bool) -> [u8; 74]
 
 // ---- answers
 
-pub fn accepted(a: Accepted) -> Said
+// The refusal's number, and why it is one.
+fn refused(n: u64) -> Said
+    ensures { result ≡ refused n }
+{
+    Said {
+        head: 1,
+        counts: true,
+        number: n,
+        refuses: true,
+        tail: n,
+    }
+}
+
+pub fn accepted(a: Result<(), Refusal>) -> Said
     ensures { result ≡ accepted a }
 {
     match a {
-        Accepted::Refused(n) => Said {
-            head: 1,
-            counts: true,
-            number: n,
-            refuses: true,
-            tail: n,
-        },
-        Accepted::Done => Said {
+        Err(r) => refused(u64::from(r)),
+        Ok(()) => Said {
             head: 0,
             counts: false,
             number: 0,
@@ -180,25 +187,19 @@ pub fn accepted(a: Accepted) -> Said
 }
 
 // n blocks were in the list.
-pub fn requested(a: Requested, n: u64) -> Said
+pub fn requested(a: Result<bool, Refusal>, n: u64) -> Said
     ensures { result ≡ requested a n }
 {
     match a {
-        Requested::Refused(k) => Said {
-            head: 1,
-            counts: true,
-            number: k,
-            refuses: true,
-            tail: k,
-        },
-        Requested::Full => Said {
+        Err(r) => refused(u64::from(r)),
+        Ok(false) => Said {
             head: 2,
             counts: true,
             number: n,
             refuses: false,
             tail: 13,
         },
-        Requested::Room => Said {
+        Ok(true) => Said {
             head: 2,
             counts: true,
             number: n,
@@ -208,39 +209,33 @@ pub fn requested(a: Requested, n: u64) -> Said
     }
 }
 
-pub fn fetched(a: Fetch) -> Said
+pub fn fetched(a: Result<Fetch, Refusal>) -> Said
     ensures { result ≡ fetched a }
 {
     match a {
-        Fetch::Refused(n) => Said {
-            head: 1,
-            counts: true,
-            number: n,
-            refuses: true,
-            tail: n,
-        },
-        Fetch::Held => Said {
+        Err(r) => refused(u64::from(r)),
+        Ok(Fetch::Held) => Said {
             head: 3,
             counts: false,
             number: 0,
             refuses: false,
             tail: 11,
         },
-        Fetch::Staged => Said {
+        Ok(Fetch::Staged) => Said {
             head: 4,
             counts: false,
             number: 0,
             refuses: false,
             tail: 0,
         },
-        Fetch::Asked => Said {
+        Ok(Fetch::Asked) => Said {
             head: 2,
             counts: true,
             number: 1,
             refuses: false,
             tail: 0,
         },
-        Fetch::NoCapacity => Said {
+        Ok(Fetch::NoCapacity) => Said {
             head: 5,
             counts: false,
             number: 0,
@@ -251,18 +246,12 @@ pub fn fetched(a: Fetch) -> Said
 }
 
 // Why the first place of the report was let go.
-pub fn let_go(a: LetGo, why: u64) -> Said
+pub fn let_go(a: Result<u64, Refusal>, why: u64) -> Said
     ensures { result ≡ let_go a why }
 {
     match a {
-        LetGo::Refused(n) => Said {
-            head: 1,
-            counts: true,
-            number: n,
-            refuses: true,
-            tail: n,
-        },
-        LetGo::Gone(n) => Said {
+        Err(r) => refused(u64::from(r)),
+        Ok(n) => Said {
             head: 6,
             counts: true,
             number: n,
@@ -295,47 +284,40 @@ fn got(n: u64, why: u64) -> Said
 }
 
 // Why the second place of the report was let go.
-pub fn received(a: Received, why: u64) -> Said
+pub fn received(a: Result<Received, Refusal>, why: u64) -> Said
     ensures { result ≡ received a why }
 {
     match a {
-        Received::Refused(n) => Said {
-            head: 1,
-            counts: true,
-            number: n,
-            refuses: true,
-            tail: n,
-        },
-        Received::Unasked(n) => Said {
+        Err(r) => refused(u64::from(r)),
+        Ok(Received { height: None, .. }) => Said {
             head: 9,
             counts: false,
             number: 0,
             refuses: false,
             tail: 0,
         },
-        Received::Expected(n, height) => got(n, why),
+        Ok(
+            Received {
+                places: n,
+                height: Some(_),
+            },
+        ) => got(n, why),
     }
 }
 
-pub fn rejected(a: Rejected) -> Said
+pub fn rejected(a: Result<Rejected, Refusal>) -> Said
     ensures { result ≡ rejected a }
 {
     match a {
-        Rejected::Refused(n) => Said {
-            head: 1,
-            counts: true,
-            number: n,
-            refuses: true,
-            tail: n,
-        },
-        Rejected::ReleasedPending(n) => Said {
+        Err(r) => refused(u64::from(r)),
+        Ok(Rejected::ReleasedPending(n)) => Said {
             head: 6,
             counts: true,
             number: n,
             refuses: false,
             tail: 2,
         },
-        Rejected::DiscardedUnsolicited => Said {
+        Ok(Rejected::DiscardedUnsolicited) => Said {
             head: 9,
             counts: false,
             number: 0,
@@ -345,46 +327,40 @@ pub fn rejected(a: Rejected) -> Said
     }
 }
 
-pub fn blocked(a: Blocked) -> Said
+pub fn blocked(a: Result<Blocked, Refusal>) -> Said
     ensures { result ≡ blocked a }
 {
     match a {
-        Blocked::Refused(n) => Said {
-            head: 1,
-            counts: true,
-            number: n,
-            refuses: true,
-            tail: n,
-        },
-        Blocked::NoDecision => Said {
+        Err(r) => refused(u64::from(r)),
+        Ok(Blocked::NoDecision) => Said {
             head: 10,
             counts: false,
             number: 0,
             refuses: false,
             tail: 0,
         },
-        Blocked::BlameStaller(seat) => Said {
+        Ok(Blocked::BlameStaller(seat)) => Said {
             head: 11,
             counts: true,
             number: seat,
             refuses: false,
             tail: 15,
         },
-        Blocked::BlamePendingTimeout(seat) => Said {
+        Ok(Blocked::BlamePendingTimeout(seat)) => Said {
             head: 11,
             counts: true,
             number: seat,
             refuses: false,
             tail: 16,
         },
-        Blocked::EvictStaged(height, h, waited) => Said {
+        Ok(Blocked::EvictStaged(height, _, _)) => Said {
             head: 12,
             counts: true,
             number: height,
             refuses: false,
             tail: 17,
         },
-        Blocked::HedgeColdFront(seat, h) => Said {
+        Ok(Blocked::HedgeColdFront(seat, _)) => Said {
             head: 13,
             counts: true,
             number: seat,
@@ -395,25 +371,24 @@ pub fn blocked(a: Blocked) -> Said
 }
 
 // How many blocks are planned, and why the first place of the report was let go: planning sweeps.
-pub fn planned(a: NextRequest, why: u64) -> Said
+pub fn planned(a: Result<NextRequest, Refusal>, why: u64) -> Said
     ensures { result ≡ planned a why }
 {
     match a {
-        NextRequest::Refused(n) => Said {
-            head: 1,
-            counts: true,
-            number: n,
-            refuses: true,
-            tail: n,
-        },
-        NextRequest::NoRequest(places) => Said {
+        Err(r) => refused(u64::from(r)),
+        Ok(NextRequest { request: None, .. }) => Said {
             head: 15,
             counts: false,
             number: 0,
             refuses: false,
             tail: why,
         },
-        NextRequest::Request(places, n, next) => Said {
+        Ok(
+            NextRequest {
+                request: Some(Request { count: n, .. }),
+                ..
+            },
+        ) => Said {
             head: 14,
             counts: true,
             number: n,

@@ -66,11 +66,7 @@ fn clear_heads(index: &mut [u32])
     requires { 1024 ≤ length index.old }
     ensures { Zeros 1024 index.new }
 {
-    let mut b: usize = 0;
-    while b < BUCKETS {
-        index[b] = 0;
-        b += 1;
-    }
+    index[..BUCKETS].fill(0);
 }
 
 // An index of no hash, whatever was in it.
@@ -100,10 +96,8 @@ fn add_all(index: &mut [u32], list: &[u64])
     ensures { Indexed (length list.now / 4) list.now index.new }
 {
     let hashes = list.len() / HASH_WORDS;
-    let mut i: usize = 0;
-    while i < hashes {
+    for i in 0..hashes {
         add(index, list, i);
-        i += 1;
     }
 }
 
@@ -125,8 +119,7 @@ fn chained(index: &[u32], list: &[u64], n: usize, a: u64, b: u64, c: u64, d: u64
 {
     let head = bucket(a, b, c, d);
     let mut j = index[head] as usize;
-    while 0 < j {
-        let i = j - 1;
+    while let Some(i) = j.checked_sub(1) {
         if is_at(list, i, a, b, c, d) {
             return true;
         }
@@ -140,12 +133,10 @@ fn looked_through(list: &[u64], m: usize, n: usize, a: u64, b: u64, c: u64, d: u
     requires { (any (same (hash a b c d)) (take m (hashes_in list.now)) ≡ false) × ((m ≤ n) × (4 * n ≤ length list.now)) }
     ensures { result ≡ any (same (hash a b c d)) (take n (hashes_in list.now)) }
 {
-    let mut i = m;
-    while i < n {
+    for i in m..n {
         if is_at(list, i, a, b, c, d) {
             return true;
         }
-        i += 1;
     }
     false
 }

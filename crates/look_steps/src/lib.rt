@@ -2,7 +2,7 @@
 // the arithmetic asks.
 #![tactic(auto)]
 
-ghost use Rattle.std.specs.Prelude.{◌≡◌, ◌&&◌, ◌<◌, ◌≤◌};
+ghost use Rattle.std.specs.Prelude.{◌≡◌, ◌&&◌, ◌<◌, ◌≤◌, Some, None};
 ghost use Rattle.model.specs.Numbers.{max_clock, max_height, max_seat};
 ghost use Rattle.model.specs.Layout.{window_of};
 ghost use Rattle.model.specs.Window.{with_stuck, with_stall, with_pace, with_observation};
@@ -16,8 +16,7 @@ ghost use Rattle.watch.specs.Answers.{blocked_of};
 ghost use Rattle.look_steps.specs.Steps.{Blames};
 
 use lent_pace::Turn;
-use model::{Blocked, Entry, Front, Hash, Height, Observation, Pace, Sought, Source, Stall};
-use records::Place;
+use model::{Blocked, Entry, Hash, Observation, Pace, StallEpisode};
 
 // ---- the stuck frontier
 
@@ -25,7 +24,7 @@ use records::Place;
 pub fn advance_apply_side_stuck(
     words: &mut [u64],
     next: u64,
-    frontier: Sought,
+    frontier: Option<Hash>,
     busy: bool,
     clock: u64,
 ) -> Blocked
@@ -46,15 +45,15 @@ pub fn advance_apply_side_stuck(
 // The episode ends, the wait is widened, and the owner is noted as unresponsive.
 fn end_stall(words: &mut [u64], widened: Pace, owner: usize, clock: u64)
     requires { Whole words.old × (owner < 256) × (clock ≤ max_clock) × (key_of owner (window_of words.old) ≤ max_seat) }
-    ensures { Holds (mark_peer_unresponsive owner clock (with_pace widened (with_stall Stall.Calm (window_of words.old)))) words.new }
+    ensures { Holds (mark_peer_unresponsive owner clock (with_pace widened (with_stall None (window_of words.old)))) words.new }
 {
-    state::set_stall(words, Stall::Calm);
+    state::set_stall(words, None);
     state::set_pace(words, widened);
     state_cooling::mark_peer_unresponsive(words, owner, clock);
 }
 
 // `stall_at`: an episode as old as the wait in force fires.
-fn stall_at(words: &mut [u64], e: Entry, clock: u64) -> Source
+fn stall_at(words: &mut [u64], e: Entry, clock: u64) -> Option<u64>
     requires { Whole words.old × Sound clock (window_of words.old) × (e.owner ≤ max_seat) }
     ensures { Blames (stall_at e clock (window_of words.old)) words.new result }
 {
@@ -67,12 +66,19 @@ fn stall_at(words: &mut [u64], e: Entry, clock: u64) -> Source
     let owner = e.owner;
     if waited < wait {
         let h = e.hash;
-        state::set_stall(words, Stall::Episode(owner, h, since));
-        return Source::Missing;
+        state::set_stall(
+            words,
+            Some(StallEpisode {
+                owner,
+                front: h,
+                since,
+            }),
+        );
+        return None;
     }
     let widened = lent_pace::changed(Turn::Blame, p, b, clock);
     end_stall(words, widened, owner as usize, clock);
-    Source::From(owner)
+    Some(owner)
 }
 
 // `advance_stall`: a missing front, or one that does not block, ends the step and clears the episode.
@@ -80,23 +86,23 @@ pub fn advance_stall(
     words: &mut [u64],
     next: u64,
     staged: u64,
-    highest: Height,
+    highest: Option<u64>,
     clock: u64,
-) -> Source
+) -> Option<u64>
     requires { Whole words.old × Sound clock (window_of words.old) }
     ensures { Blames (advance_stall next staged highest clock (window_of words.old)) words.new result }
 {
     let lowest = state_queue::lowest(words);
-    let Front::At(e) = lowest else {
-        state::set_stall(words, Stall::Calm);
-        return Source::Missing;
+    let Some(e) = lowest else {
+        state::set_stall(words, None);
+        return None;
     };
     let b = state::get_settings(words);
     if watch::blocks(next, staged, highest, e, b) {
         return stall_at(words, e, clock);
     }
-    state::set_stall(words, Stall::Calm);
-    Source::Missing
+    state::set_stall(words, None);
+    None
 }
 
 // ---- the pending timeout
@@ -107,7 +113,7 @@ fn still_late(words: &[u64], owner: u64, h: Hash, clock: u64) -> bool
     ensures { result ≡ (still_owned (found h (window_of words.now).queue.pending) owner && owner_download_expired owner (active (window_of words.now)) clock (window_of words.now)) }
 {
     let place = state_queue::find(words, h);
-    let Place::Here(at) = place else {
+    let Ok(at) = place else {
         return false;
     };
     let e = state_queue::entry_at(words, at);
@@ -118,18 +124,18 @@ fn still_late(words: &[u64], owner: u64, h: Hash, clock: u64) -> bool
 }
 
 // The observation is spent on a blame.
-fn blame_late(words: &mut [u64], owner: u64, clock: u64) -> Source
+fn blame_late(words: &mut [u64], owner: u64, clock: u64) -> Option<u64>
     requires { Whole words.old × Sound clock (window_of words.old) × (owner ≤ max_seat) }
-    ensures { Blames (blame (mark_peer_unresponsive owner clock (with_observation Observation.Unarmed (window_of words.old))) (Source.From owner)) words.new result }
+    ensures { Blames (blame (mark_peer_unresponsive owner clock (with_observation Observation.Unarmed (window_of words.old))) (Some owner)) words.new result }
 {
     let source = owner as usize;
     state::set_observation(words, Observation::Unarmed);
     state_cooling::mark_peer_unresponsive(words, source, clock);
-    Source::From(owner)
+    Some(owner)
 }
 
 // `timeout_by` of an armed observation: it blames or ends.
-fn spend_armed(words: &mut [u64], owner: u64, h: Hash, clock: u64) -> Source
+fn spend_armed(words: &mut [u64], owner: u64, h: Hash, clock: u64) -> Option<u64>
     requires { Whole words.old × Sound clock (window_of words.old) × (owner ≤ max_seat) }
     ensures { Blames (timeout_by (Observation.Armed owner h) clock (window_of words.old)) words.new result }
 {
@@ -138,22 +144,22 @@ fn spend_armed(words: &mut [u64], owner: u64, h: Hash, clock: u64) -> Source
     }
     let spent = Observation::Unarmed;
     state::set_observation(words, spent);
-    Source::Missing
+    None
 }
 
 // `timeout_by` without an observation: the lowest entry of an expired owner arms one.
-fn arm_lowest(words: &mut [u64], clock: u64) -> Source
+fn arm_lowest(words: &mut [u64], clock: u64) -> Option<u64>
     requires { Whole words.old × Sound clock (window_of words.old) }
     ensures { Blames (timeout_by Observation.Unarmed clock (window_of words.old)) words.new result }
 {
     let lowest = expiry::lowest_expired(words, clock);
     let armed = watch::armed_by(lowest);
     state::set_observation(words, armed);
-    Source::Missing
+    None
 }
 
 // `advance_pending_timeout`
-pub fn advance_pending_timeout(words: &mut [u64], clock: u64) -> Source
+pub fn advance_pending_timeout(words: &mut [u64], clock: u64) -> Option<u64>
     requires { Whole words.old × Sound clock (window_of words.old) }
     ensures { Blames (advance_pending_timeout clock (window_of words.old)) words.new result }
 {

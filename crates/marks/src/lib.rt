@@ -56,14 +56,12 @@ pub fn sweep_marks(
     ensures { take count result ≡ map (sweep_reason clock timeout (window_of words.now)) (window_of words.now).queue.pending }
 {
     let mut marks = [0; sizes::PLACES];
-    let mut i = 0;
-    while i < count {
+    for i in 0..count {
         let o = words[i + at::OWNERS];
         let owner = o as usize;
         let start = words[at::STARTS + owner];
         let body = words[at::BODIES + owner];
         marks[i] = sweep_mark(clock, timeout, wait, words[i + at::TIMES], start, body);
-        i += 1;
     }
     marks
 }
@@ -85,10 +83,8 @@ pub fn retire_marks(words: &[u64], count: usize, height: u64) -> [u64; sizes::PL
     ensures { take count result ≡ map (retire_reason height) (window_of words.now).queue.pending }
 {
     let mut marks = [0; sizes::PLACES];
-    let mut i = 0;
-    while i < count {
+    for i in 0..count {
         marks[i] = retire_mark(words[i + at::HEIGHTS], height);
-        i += 1;
     }
     marks
 }
@@ -110,12 +106,10 @@ pub fn lost_marks(words: &[u64], count: usize, flags: &[u64], reason: u64) -> [u
     ensures { take count result ≡ map (lost_reason (flagged flags.now) reason) (window_of words.now).queue.pending }
 {
     let mut marks = [0; sizes::PLACES];
-    let mut i = 0;
-    while i < count {
+    for i in 0..count {
         let o = words[i + at::OWNERS];
         let owner = o as usize;
         marks[i] = lost_mark(flags[owner], reason);
-        i += 1;
     }
     marks
 }
@@ -144,9 +138,7 @@ pub fn forecast_of(words: &[u64], count: usize, clock: u64, timeout: u64) -> For
         blocks: 0,
         bytes: 0,
     };
-    let mut i = count;
-    while 0 < i {
-        i -= 1;
+    for i in (0..count).rev() {
         let o = words[i + at::OWNERS];
         let owner = o as usize;
         let is = time::reached(limit, words[at::STARTS + owner]);

@@ -1,5 +1,5 @@
 -- SPECIFICATION 7.1 to 7.7, 7.17, 7.18: requests, deliveries and rejections. Definitions only.
-use Rattle.std.specs.Prelude.{ℕ, suc, ◌+◌, ◌-◌, ◌*◌, ◌/◌, Bool, true, false, cond, not, ◌&&◌, ◌||◌, List, [], ◌∷◌, length, get_or, set, eqb, ltb, leb}
+use Rattle.std.specs.Prelude.{ℕ, suc, ◌+◌, ◌-◌, ◌*◌, ◌/◌, Bool, true, false, cond, not, ◌&&◌, ◌||◌, List, [], ◌∷◌, length, get_or, set, eqb, ltb, leb, None, Some, Option}
 use Rattle.model.specs.Numbers.{greater, min_estimate}
 use Rattle.model.specs.Hash.{same, hash}
 use Rattle.model.specs.Window.{Window, Queue, queue, HighWater, Step, stay, and_then, after, window, races, watch, with_queue, with_mean, with_frontier, with_high, with_cold, with_preferred, with_attempted, with_stall, with_observation, with_pace, with_fanout, without_probe, no_seats}
@@ -12,19 +12,10 @@ use Rattle.model.specs.Races.{is_empty, resolve_cold_front_delivery, record_pref
 use Rattle.model.specs.declared.Hash.{Hash}
 use Rattle.model.specs.declared.Entry.{Entry}
 use Rattle.model.specs.declared.Settings.{Settings}
-use Rattle.model.specs.declared.Front.{Front}
-use Rattle.model.specs.declared.Front.TheVariants.{Nothing, At}
-use Rattle.model.specs.declared.Source.{Source}
-use Rattle.model.specs.declared.Source.TheVariants.{Missing, From}
-use Rattle.model.specs.declared.Height.{Height}
-use Rattle.model.specs.declared.Height.TheVariants.{Unknown, Known}
-use Rattle.model.specs.declared.Stall.{Stall}
-use Rattle.model.specs.declared.Stall.TheVariants.{Calm, Episode}
-use Rattle.model.specs.declared.Stuck.TheVariants.{Moving}
+use Rattle.model.specs.declared.StallEpisode.{StallEpisode}
 use Rattle.model.specs.declared.ColdFront.{ColdFront}
 use Rattle.model.specs.declared.ColdFront.TheVariants.{Idle, Waiting, Racing}
-use Rattle.model.specs.declared.Probe.{Probe}
-use Rattle.model.specs.declared.Probe.TheVariants.{NoProbe, Probing}
+use Rattle.model.specs.declared.PrefixProbe.{PrefixProbe}
 use Rattle.model.specs.declared.Observation.{Observation}
 use Rattle.model.specs.declared.Observation.TheVariants.{Unarmed, Armed, Swept}
 
@@ -32,7 +23,7 @@ use Rattle.model.specs.declared.Observation.TheVariants.{Unarmed, Armed, Swept}
 unfoldable pub opened : ℕ → Settings → List ℕ → Window
 opened now b keys =
     window b keys now 262144 1 (record { blocks = 0; bytes = 0 }) (queue 0 [] no_seats no_seats) no_seats (record { eligible = 0; engaged = false })
-    (pace_opened b) (races Idle [] Missing NoProbe [] no_seats Missing) (watch Calm Moving Unarmed)
+    (pace_opened b) (races Idle [] None None [] no_seats None) (watch None None Unarmed)
 
 -- ---- requests
 
@@ -73,7 +64,7 @@ noted asks owner now w =
 -- `mark_requested`; what it answers is `has_request_capacity` afterwards
 unfoldable pub mark_requested : List Ask → ℕ → ℕ → ℕ → Window → Window
 mark_requested asks owner next now w =
-    let v = noted asks owner now (cond (is_empty w.queue.pending && not (is_empty asks)) (with_attempted Missing w) w) in
+    let v = noted asks owner now (cond (is_empty w.queue.pending && not (is_empty asks)) (with_attempted None w) w) in
     with_frontier (greater v.frontier next) v
 
 -- what an owned fetch comes to
@@ -112,9 +103,9 @@ unfoldable pub credit_duplicate_delivery : Hash → ℕ → Window → Window
 credit_duplicate_delivery h source w = with_observation (unless_observed h source w.watch.observation) w
 
 -- an episode of this owner or of this front ends
-abbrev pub unless_stalled : Hash → ℕ → Stall → Stall
-unless_stalled h source Calm = Calm
-unless_stalled h source (Episode owner front since) = cond (eqb owner source || same front h) Calm (Episode owner front since)
+abbrev pub unless_stalled : Hash → ℕ → Option StallEpisode → Option StallEpisode
+unless_stalled h source None = None
+unless_stalled h source (Some s) = cond (eqb s.owner source || same s.front h) None (Some s)
 
 -- `record_delivery_progress`
 unfoldable pub record_delivery_progress : ℕ → Hash → ℕ → ℕ → Window → Window
@@ -123,9 +114,9 @@ record_delivery_progress source h height now w =
     cond (was_front height v.queue.pending) (with_pace (front_recorded v.settings now v.pace) v) v
 
 -- a delivery without a pending height is no front
-abbrev pub progress_by : Height → ℕ → Hash → ℕ → Window → Window
-progress_by Unknown source h now w = w
-progress_by (Known n) source h now w = record_delivery_progress source h n now w
+abbrev pub progress_by : Option ℕ → ℕ → Hash → ℕ → Window → Window
+progress_by None source h now w = w
+progress_by (Some n) source h now w = record_delivery_progress source h n now w
 
 -- `owner_last_body_at.insert(source, now)`
 unfoldable pub body_noted : ℕ → ℕ → Window → Window
@@ -133,28 +124,28 @@ body_noted source now w =
     with_queue (queue w.queue.total w.queue.pending w.queue.starts (set w.queue.bodies source (suc now))) w
 
 -- `credit_delivery_from`
-unfoldable pub credit_delivery_from : Hash → ℕ → Height → ℕ → Window → Step
+unfoldable pub credit_delivery_from : Hash → ℕ → Option ℕ → ℕ → Window → Step
 credit_delivery_from h source height now w =
     after
     (and_then (resolve_cold_front_delivery h source now (credit_duplicate_delivery h source (body_noted source now w)))
     (record_prefix_probe_delivery h source now))
     (progress_by height source h now)
 
-abbrev pub height_of : Front → Height
-height_of Nothing = Unknown
-height_of (At e) = Known e.height
+abbrev pub height_of : Option Entry → Option ℕ
+height_of None = None
+height_of (Some e) = Some e.height
 
 -- the source is credited, if there is one
-abbrev pub credit_by : Source → Hash → Height → ℕ → Window → Step
-credit_by Missing h height now w = stay w
-credit_by (From source) h height now w = credit_delivery_from h source height now w
+abbrev pub credit_by : Option ℕ → Hash → Option ℕ → ℕ → Window → Step
+credit_by None h height now w = stay w
+credit_by (Some source) h height now w = credit_delivery_from h source height now w
 
 -- SPECIFICATION 7.4: mean = max((7 × mean + bytes) / 8, 80)
 unfoldable pub next_mean : ℕ → ℕ → ℕ
 next_mean mean bytes = greater ((mean * 7 + bytes) / 8) min_estimate
 
 -- `mark_received_from`; it answers the height of the entry, where there was one
-unfoldable pub mark_received_from : Hash → ℕ → Source → ℕ → Window → Step
+unfoldable pub mark_received_from : Hash → ℕ → Option ℕ → ℕ → Window → Step
 mark_received_from h bytes source now w =
     after (and_then (remove_pending h 1 now w) (credit_by source h (height_of (found h w.queue.pending)) now))
     (λ v. with_mean (next_mean v.mean bytes) v)
@@ -167,26 +158,26 @@ unless_front h source Idle = Idle
 unless_front h source (Waiting owner x since) = cond (same x h && eqb owner source) Idle (Waiting owner x since)
 unless_front h source (Racing owner alternate x) = cond (same x h && (eqb source owner || eqb source alternate)) Idle (Racing owner alternate x)
 
-abbrev pub is_owner : Source → Front → Bool
-is_owner Missing front = false
-is_owner (From s) Nothing = false
-is_owner (From s) (At e) = eqb e.owner s
+abbrev pub is_owner : Option ℕ → Option Entry → Bool
+is_owner None front = false
+is_owner (Some s) None = false
+is_owner (Some s) (Some e) = eqb e.owner s
 
-abbrev pub rejected_by : Source → Hash → Window → Window
-rejected_by Missing h w = w
-rejected_by (From s) h w = with_cold (unless_front h s w.races.cold) (credit_duplicate_delivery h s w)
+abbrev pub rejected_by : Option ℕ → Hash → Window → Window
+rejected_by None h w = w
+rejected_by (Some s) h w = with_cold (unless_front h s w.races.cold) (credit_duplicate_delivery h s w)
 
 -- `reject_delivery`; it answers whether it released the entry
-unfoldable pub reject_delivery : Hash → Source → ℕ → Window → Step
+unfoldable pub reject_delivery : Hash → Option ℕ → ℕ → Window → Step
 reject_delivery h source now w =
     let v = rejected_by source h w in
     cond (is_owner source (found h v.queue.pending)) (remove_pending h 2 now v) (stay v)
 
 -- ---- other calls
 
-abbrev pub is_young : Probe → ℕ → ℕ → Bool
-is_young NoProbe initial now = false
-is_young (Probing owner accepted started) initial now = ltb (now - started) initial
+abbrev pub is_young : Option PrefixProbe → ℕ → ℕ → Bool
+is_young None initial now = false
+is_young (Some p) initial now = ltb (now - p.started) initial
 
 unfoldable pub engages : ℕ → ℕ → Window → Bool
 engages n now w =
@@ -201,4 +192,4 @@ set_fanout_eligible_peers n now w =
 
 -- `clear_preferred_peer`
 unfoldable pub clear_preferred_peer : Window → Window
-clear_preferred_peer w = with_preferred Missing w
+clear_preferred_peer w = with_preferred None w

@@ -5,7 +5,7 @@
 --   3584 .. 4095   the head
 -- Three forms: the words; the `Table`, every place of every part and no more (all words are some table's); the `Window`, what the table says
 -- where it is valid. `decode` and `flat` go between words and tables, `read` and `table` between tables and windows.
-use Rattle.std.specs.Prelude.{ℕ, zero, suc, ◌+◌, ◌-◌, ◌*◌, Bool, true, false, cond, ◌&&◌, List, [], ◌∷◌, ◌++◌, map, length, get_or, take, drop, replicate, eqb, ltb, leb}
+use Rattle.std.specs.Prelude.{ℕ, zero, suc, ◌+◌, ◌-◌, ◌*◌, Bool, true, false, cond, ◌&&◌, List, [], ◌∷◌, ◌++◌, map, length, get_or, take, drop, replicate, eqb, ltb, leb, None, Some, Option}
 use Rattle.model.specs.Places.{places, seats, hedges, probed, stall_size, stuck_size, cold_size, hedged_size, observation_size, planned_size, probe_size, kept_size, at_hash_a, at_hash_b, at_hash_c, at_hash_d, at_owners, at_times, at_heights, at_estimates, at_spare, at_starts, at_bodies, at_keys, at_cooling, at_racers, at_head, head_format, head_count, head_last_clock, head_total, head_high_blocks, head_high_bytes, head_mean, head_frontier, head_max_pending_blocks, head_max_pending_bytes, head_max_received_blocks, head_max_peer_inflight, head_fanout_peer_inflight, head_min_peers_for_fanout, head_getdata_batch_limit, head_block_spacing, head_received_timeout, head_stall_timeout_initial, head_stall_timeout_max, head_staller_cooldown, head_fanout_eligible, head_fanout_engaged, head_front_mean, head_front_advance, head_stall_timeout, head_preferred, head_attempted, head_stall, head_stall_owner, head_stall_hash, head_stuck, head_stuck_height, head_stuck_hash, head_cold, head_cold_owner, head_cold_other, head_cold_hash, head_hedged, head_hedged_hashes, head_observation, head_observation_owner, head_observation_hash, head_probe, head_probe_owner, head_probe_count, head_probe_accepted, head_probe_hashes, head_kept}
 use Rattle.model.specs.Numbers.{max_clock, max_height, min_estimate, max_estimate, max_duration, max_byte_limit, max_count, max_pending, max_seat, max_front_mean, max_progress}
 use Rattle.model.specs.Lists.{pad, all, every}
@@ -13,20 +13,15 @@ use Rattle.model.specs.Hash.{hash, less, hashes_in, hashes_words, hash_words}
 use Rattle.model.specs.Records.{sum}
 use Rattle.model.specs.Seats.{oldest}
 use Rattle.model.specs.Pace.{pace}
-use Rattle.model.specs.Window.{Window, window, queue, races, watch}
+use Rattle.model.specs.Window.{Window, window, queue, races, watch, episode, stuck_at, probing}
 use Rattle.model.specs.declared.Hash.{Hash}
 use Rattle.model.specs.declared.Entry.{Entry}
 use Rattle.model.specs.declared.Settings.{Settings}
-use Rattle.model.specs.declared.Source.{Source}
-use Rattle.model.specs.declared.Source.TheVariants.{Missing, From}
-use Rattle.model.specs.declared.Stall.{Stall}
-use Rattle.model.specs.declared.Stall.TheVariants.{Calm, Episode}
-use Rattle.model.specs.declared.Stuck.{Stuck}
-use Rattle.model.specs.declared.Stuck.TheVariants.{Moving, StuckAt}
+use Rattle.model.specs.declared.StallEpisode.{StallEpisode}
+use Rattle.model.specs.declared.StuckFrontier.{StuckFrontier}
 use Rattle.model.specs.declared.ColdFront.{ColdFront}
 use Rattle.model.specs.declared.ColdFront.TheVariants.{Idle, Waiting, Racing}
-use Rattle.model.specs.declared.Probe.{Probe}
-use Rattle.model.specs.declared.Probe.TheVariants.{NoProbe, Probing}
+use Rattle.model.specs.declared.PrefixProbe.{PrefixProbe}
 use Rattle.model.specs.declared.Observation.{Observation}
 use Rattle.model.specs.declared.Observation.TheVariants.{Unarmed, Armed, Swept}
 
@@ -114,19 +109,19 @@ flag_word false = 0
 flag_word true = 1
 
 -- `head_preferred`, `head_attempted`: a seat that may be missing
-abbrev pub source_word : Source → ℕ
-source_word Missing = 0
-source_word (From s) = suc s
+abbrev pub source_word : Option ℕ → ℕ
+source_word None = 0
+source_word (Some s) = suc s
 
 -- from `head_stall` on
-abbrev pub stall_words : Stall → List ℕ
-stall_words Calm = replicate stall_size 0
-stall_words (Episode owner h since) = suc since ∷ owner ∷ hash_words h
+abbrev pub stall_words : Option StallEpisode → List ℕ
+stall_words None = replicate stall_size 0
+stall_words (Some s) = suc s.since ∷ s.owner ∷ hash_words s.front
 
 -- from `head_stuck` on
-abbrev pub stuck_words : Stuck → List ℕ
-stuck_words Moving = replicate stuck_size 0
-stuck_words (StuckAt height h since) = suc since ∷ height ∷ hash_words h
+abbrev pub stuck_words : Option StuckFrontier → List ℕ
+stuck_words None = replicate stuck_size 0
+stuck_words (Some s) = suc s.since ∷ s.height ∷ hash_words s.front
 
 -- from `head_cold` on
 abbrev pub cold_words : ColdFront → List ℕ
@@ -145,9 +140,9 @@ observation_words (Armed owner h) = 1 ∷ owner ∷ hash_words h
 observation_words (Swept owner h) = 2 ∷ owner ∷ hash_words h
 
 -- from `head_probe` on
-abbrev pub probe_words : Probe → ℕ → List ℕ
-probe_words NoProbe n = 0 ∷ 0 ∷ n ∷ 0 ∷ []
-probe_words (Probing owner accepted started) n = suc started ∷ owner ∷ n ∷ accepted ∷ []
+abbrev pub probe_words : Option PrefixProbe → ℕ → List ℕ
+probe_words None n = 0 ∷ 0 ∷ n ∷ 0 ∷ []
+probe_words (Some p) n = suc p.started ∷ p.owner ∷ n ∷ p.accepted ∷ []
 
 -- from `head_probe_hashes` on
 unfoldable pub planned_words : List Hash → List ℕ
@@ -221,17 +216,17 @@ settings_of t = record {
   staller_cooldown = word head_staller_cooldown t;
 }
 
-abbrev pub source_of : ℕ → Source
-source_of zero = Missing
-source_of (suc s) = From s
+abbrev pub source_of : ℕ → Option ℕ
+source_of zero = None
+source_of (suc s) = Some s
 
-abbrev pub stall_of : ℕ → ℕ → Hash → Stall
-stall_of zero owner h = Calm
-stall_of (suc since) owner h = Episode owner h since
+abbrev pub stall_of : ℕ → ℕ → Hash → Option StallEpisode
+stall_of zero owner h = None
+stall_of (suc since) owner h = episode owner h since
 
-abbrev pub stuck_of : ℕ → ℕ → Hash → Stuck
-stuck_of zero height h = Moving
-stuck_of (suc since) height h = StuckAt height h since
+abbrev pub stuck_of : ℕ → ℕ → Hash → Option StuckFrontier
+stuck_of zero height h = None
+stuck_of (suc since) height h = stuck_at height h since
 
 abbrev pub cold_of : ℕ → ℕ → ℕ → Hash → ColdFront
 cold_of zero owner x h = Idle
@@ -243,9 +238,9 @@ observation_of zero owner h = Unarmed
 observation_of (suc zero) owner h = Armed owner h
 observation_of (suc (suc n)) owner h = Swept owner h
 
-abbrev pub probe_of : ℕ → ℕ → ℕ → Probe
-probe_of zero owner accepted = NoProbe
-probe_of (suc started) owner accepted = Probing owner accepted started
+abbrev pub probe_of : ℕ → ℕ → ℕ → Option PrefixProbe
+probe_of zero owner accepted = None
+probe_of (suc started) owner accepted = probing owner accepted started
 
 unfoldable pub read : Table → Window
 read t =

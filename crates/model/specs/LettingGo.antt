@@ -1,7 +1,7 @@
 -- SPECIFICATION 6.7 and 7.8 to 7.12: the ways in which entries are let go. Definitions only.
 -- Three ways, as in the Rust: `remove_pending` takes one entry and resets its owner's start; the sweep takes all out and then resets once for
 -- each; `retain_peer_assignments` drops whole seats and resets nothing.
-use Rattle.std.specs.Prelude.{ℕ, zero, suc, ◌-◌, Bool, cond, not, ◌&&◌, ◌||◌, List, [], ◌∷◌, length, get_or, eqb, ltb, leb}
+use Rattle.std.specs.Prelude.{ℕ, zero, suc, ◌-◌, Bool, cond, not, ◌&&◌, ◌||◌, List, [], ◌∷◌, length, get_or, eqb, ltb, leb, None, Some, Option}
 use Rattle.model.specs.Numbers.{lesser, present}
 use Rattle.model.specs.Lists.{select, any, count}
 use Rattle.model.specs.Hash.{same}
@@ -13,16 +13,9 @@ use Rattle.model.specs.Reasons.{lowered, release}
 use Rattle.model.specs.declared.Hash.{Hash}
 use Rattle.model.specs.declared.Entry.{Entry}
 use Rattle.model.specs.declared.Release.{Release}
-use Rattle.model.specs.declared.Front.{Front}
-use Rattle.model.specs.declared.Front.TheVariants.{Nothing, At}
-use Rattle.model.specs.declared.Source.{Source}
-use Rattle.model.specs.declared.Source.TheVariants.{Missing, From}
-use Rattle.model.specs.declared.Height.{Height}
-use Rattle.model.specs.declared.Height.TheVariants.{Unknown, Known}
 use Rattle.model.specs.declared.ColdFront.{ColdFront}
 use Rattle.model.specs.declared.ColdFront.TheVariants.{Idle, Waiting, Racing}
-use Rattle.model.specs.declared.Probe.{Probe}
-use Rattle.model.specs.declared.Probe.TheVariants.{NoProbe, Probing}
+use Rattle.model.specs.declared.PrefixProbe.{PrefixProbe}
 use Rattle.model.specs.declared.Observation.{Observation}
 use Rattle.model.specs.declared.Observation.TheVariants.{Unarmed, Armed, Swept}
 
@@ -32,9 +25,9 @@ use Rattle.model.specs.declared.Observation.TheVariants.{Unarmed, Armed, Swept}
 unfoldable pub without : Entry → Queue → Queue
 without e q = queue (q.total - e.estimate) (remove e.hash q.pending) q.starts q.bodies
 
-abbrev pub take_out : ℕ → ℕ → Front → Window → Step
-take_out reason now Nothing w = stay w
-take_out reason now (At e) w = record {
+abbrev pub take_out : ℕ → ℕ → Option Entry → Window → Step
+take_out reason now None w = stay w
+take_out reason now (Some e) w = record {
   window = with_frontier (lowered reason e.height w.frontier)
       (with_queue (reset_owner_queue_start e.owner e.time now (without e w.queue)) w);
   gone = release e reason ∷ [];
@@ -49,12 +42,12 @@ unfoldable pub release_pending : Hash → ℕ → Window → Step
 release_pending h now w = remove_pending h 4 now w
 
 -- a height that was named lowers the frontier, entry or none
-abbrev pub lower_to : Height → Window → Window
-lower_to Unknown w = w
-lower_to (Known n) w = with_frontier (lesser w.frontier n) w
+abbrev pub lower_to : Option ℕ → Window → Window
+lower_to None w = w
+lower_to (Some n) w = with_frontier (lesser w.frontier n) w
 
 -- `requeue_for_retry`: the frontier falls to the lesser of the entry's height and the named one, as far as they are there
-unfoldable pub requeue_for_retry : Hash → Height → ℕ → Window → Step
+unfoldable pub requeue_for_retry : Hash → Option ℕ → ℕ → Window → Step
 requeue_for_retry h named now w = after (remove_pending h 3 now w) (lower_to named)
 
 -- `remove_pending` of one entry after the other
@@ -173,15 +166,15 @@ cold_kept owns Idle = Idle
 cold_kept owns (Waiting owner h since) = cond (owns owner) (Waiting owner h since) Idle
 cold_kept owns (Racing owner alternate h) = cond (owns owner && owns alternate) (Racing owner alternate h) Idle
 
-abbrev pub peer_kept : (ℕ → Bool) → Source → Source
-peer_kept owns Missing = Missing
-peer_kept owns (From s) = cond (owns s) (From s) Missing
+abbrev pub peer_kept : (ℕ → Bool) → Option ℕ → Option ℕ
+peer_kept owns None = None
+peer_kept owns (Some s) = cond (owns s) (Some s) None
 
 -- the probe goes with its owner, or where fewer than two racers are left
-abbrev pub probe_kept : (ℕ → Bool) → Probe → List ℕ → Window → Window
-probe_kept owns NoProbe racers w = w
-probe_kept owns (Probing owner accepted started) racers w =
-    cond (not (owns owner) || ltb (count present racers) 2) (without_probe w) (with_probe (Probing owner accepted started) w.races.planned racers w)
+abbrev pub probe_kept : (ℕ → Bool) → Option PrefixProbe → List ℕ → Window → Window
+probe_kept owns None racers w = w
+probe_kept owns (Some p) racers w =
+    cond (not (owns p.owner) || ltb (count present racers) 2) (without_probe w) (with_probe (Some p) w.races.planned racers w)
 
 -- what `retain_owned_by` drops besides what its seats were asked for
 unfoldable pub roles_kept : (ℕ → Bool) → Window → Window

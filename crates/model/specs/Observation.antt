@@ -1,8 +1,8 @@
 -- SPECIFICATION 7.16: what a look at a blocked window comes to. Definitions only.
-use Rattle.std.specs.Prelude.{ℕ, ◌-◌, ◌*◌, ◌/◌, Bool, false, cond, ◌&&◌, eqb, ltb, leb}
+use Rattle.std.specs.Prelude.{ℕ, ◌-◌, ◌*◌, ◌/◌, Bool, false, cond, ◌&&◌, eqb, ltb, leb, None, Some, Option}
 use Rattle.model.specs.Lists.{select}
 use Rattle.model.specs.Hash.{same}
-use Rattle.model.specs.Window.{Window, with_cold, with_stall, with_stuck, with_observation, with_pace}
+use Rattle.model.specs.Window.{Window, with_cold, with_stall, with_stuck, with_observation, with_pace, episode, stuck_at}
 use Rattle.model.specs.Records.{lowest, found}
 use Rattle.model.specs.Time.{active, owner_download_expired}
 use Rattle.model.specs.Pace.{effective_stall_timeout, wait_widened}
@@ -10,29 +10,19 @@ use Rattle.model.specs.Cooling.{mark_peer_unresponsive}
 use Rattle.model.specs.Races.{Hedge, no_hedge, hedge, is_racing, advance_cold_front}
 use Rattle.model.specs.declared.Hash.{Hash}
 use Rattle.model.specs.declared.Entry.{Entry}
-use Rattle.model.specs.declared.Front.{Front}
-use Rattle.model.specs.declared.Front.TheVariants.{Nothing, At}
-use Rattle.model.specs.declared.Source.{Source}
-use Rattle.model.specs.declared.Source.TheVariants.{Missing, From}
-use Rattle.model.specs.declared.Height.{Height}
-use Rattle.model.specs.declared.Height.TheVariants.{Unknown, Known}
-use Rattle.model.specs.declared.Sought.{Sought}
-use Rattle.model.specs.declared.Sought.TheVariants.{NoHash, Exactly}
-use Rattle.model.specs.declared.Stall.{Stall}
-use Rattle.model.specs.declared.Stall.TheVariants.{Calm, Episode}
-use Rattle.model.specs.declared.Stuck.{Stuck}
-use Rattle.model.specs.declared.Stuck.TheVariants.{Moving, StuckAt}
+use Rattle.model.specs.declared.StallEpisode.{StallEpisode}
+use Rattle.model.specs.declared.StuckFrontier.{StuckFrontier}
 use Rattle.model.specs.declared.ColdFront.TheVariants.{Idle}
 use Rattle.model.specs.declared.Observation.{Observation}
 use Rattle.model.specs.declared.Observation.TheVariants.{Unarmed, Armed, Swept}
 
 -- the Rust's `BlockedContext`, and what is handed in of the stager and the tree
 pub record Look : Type 0 where
-  pub next : Height
-  pub frontier : Sought
+  pub next : Option ℕ
+  pub frontier : Option Hash
   pub busy : Bool
   pub staged : ℕ
-  pub highest : Height
+  pub highest : Option ℕ
 
 -- the Rust's `BlockedDecision`
 pub data Decision : Type 0 where
@@ -50,54 +40,54 @@ pub data Eviction : Type 0 where
   evicts : Hash → ℕ → Eviction
 
 pub record StuckStep : Type 0 where
-  pub stuck : Stuck
+  pub stuck : Option StuckFrontier
   pub evicted : Eviction
 
-abbrev pub stuck_step : Stuck → Eviction → StuckStep
+abbrev pub stuck_step : Option StuckFrontier → Eviction → StuckStep
 stuck_step s e = record { stuck = s; evicted = e }
 
 -- another frontier is stuck from now on if the apply side is busy, else none is
-unfoldable pub stuck_anew : ℕ → Hash → Bool → ℕ → Stuck
-stuck_anew height h busy now = cond busy (StuckAt height h now) Moving
+unfoldable pub stuck_anew : ℕ → Hash → Bool → ℕ → Option StuckFrontier
+stuck_anew height h busy now = cond busy (stuck_at height h now) None
 
-abbrev pub stuck_still : Stuck → ℕ → Hash → Bool → ℕ → Stuck
-stuck_still Moving height h busy now = stuck_anew height h busy now
-stuck_still (StuckAt n x since) height h busy now = cond (eqb n height && same x h) (StuckAt n x since) (stuck_anew height h busy now)
+abbrev pub stuck_still : Option StuckFrontier → ℕ → Hash → Bool → ℕ → Option StuckFrontier
+stuck_still None height h busy now = stuck_anew height h busy now
+stuck_still (Some s) height h busy now = cond (eqb s.height height && same s.front h) (Some s) (stuck_anew height h busy now)
 
 -- suppressed for twice the received timeout
-abbrev pub evicted_by : Stuck → Hash → ℕ → ℕ → StuckStep
-evicted_by Moving h bound now = stuck_step Moving keeps
-evicted_by (StuckAt n x since) h bound now =
-    cond (ltb (now - since) bound) (stuck_step (StuckAt n x since) keeps) (stuck_step (StuckAt n x now) (evicts h (now - since)))
+abbrev pub evicted_by : Option StuckFrontier → Hash → ℕ → ℕ → StuckStep
+evicted_by None h bound now = stuck_step None keeps
+evicted_by (Some s) h bound now =
+    cond (ltb (now - s.since) bound) (stuck_step (Some s) keeps) (stuck_step (stuck_at s.height s.front now) (evicts h (now - s.since)))
 
 -- `advance_apply_side_stuck`
-abbrev pub advance_apply_side_stuck : ℕ → Sought → Bool → ℕ → Window → StuckStep
-advance_apply_side_stuck height NoHash busy now w = stuck_step Moving keeps
-advance_apply_side_stuck height (Exactly h) busy now w =
+abbrev pub advance_apply_side_stuck : ℕ → Option Hash → Bool → ℕ → Window → StuckStep
+advance_apply_side_stuck height None busy now w = stuck_step None keeps
+advance_apply_side_stuck height (Some h) busy now w =
     let s = stuck_still w.watch.stuck height h busy now in
     cond busy (evicted_by s h (w.settings.received_timeout * 2) now) (stuck_step s keeps)
 
 -- ---- the stall
 
-abbrev pub is_above : Height → ℕ → Bool
-is_above Unknown n = false
-is_above (Known h) n = ltb n h
+abbrev pub is_above : Option ℕ → ℕ → Bool
+is_above None n = false
+is_above (Some h) n = ltb n h
 
 -- the entry that blocks the window: the lowest, where it is next, enough is staged and something above it is
-unfoldable pub blocks : ℕ → ℕ → Height → Entry → Window → Bool
+unfoldable pub blocks : ℕ → ℕ → Option ℕ → Entry → Window → Bool
 blocks next staged highest e w = eqb e.height next && (leb (w.settings.max_received_blocks / 2) staged && is_above highest e.height)
 
 -- since when the same owner and front have stalled: an episode that goes on, or now
-abbrev pub stalled_since : Stall → Entry → ℕ → ℕ
-stalled_since Calm e now = now
-stalled_since (Episode owner front since) e now = cond (eqb owner e.owner && same front e.hash) since now
+abbrev pub stalled_since : Option StallEpisode → Entry → ℕ → ℕ
+stalled_since None e now = now
+stalled_since (Some s) e now = cond (eqb s.owner e.owner && same s.front e.hash) s.since now
 
 -- an owner to blame, where there is one
 pub record Blame : Type 0 where
   pub window : Window
-  pub blamed : Source
+  pub blamed : Option ℕ
 
-abbrev pub blame : Window → Source → Blame
+abbrev pub blame : Window → Option ℕ → Blame
 blame w s = record { window = w; blamed = s }
 
 -- the episode fires when it is as old as the wait in force; that widens the wait and cools the owner
@@ -105,39 +95,39 @@ unfoldable pub stall_at : Entry → ℕ → Window → Blame
 stall_at e now w =
     let since = stalled_since w.watch.stall e now in
     cond (ltb (now - since) (effective_stall_timeout w.settings w.pace))
-    (blame (with_stall (Episode e.owner e.hash since) w) Missing)
-    (blame (mark_peer_unresponsive e.owner now (with_pace (wait_widened w.settings w.pace) (with_stall Calm w))) (From e.owner))
+    (blame (with_stall (episode e.owner e.hash since) w) None)
+    (blame (mark_peer_unresponsive e.owner now (with_pace (wait_widened w.settings w.pace) (with_stall None w))) (Some e.owner))
 
 -- `advance_stall` with `window_blocked_on`: a missing front ends the step and clears the episode
-abbrev pub stall_by : Front → ℕ → ℕ → Height → ℕ → Window → Blame
-stall_by Nothing next staged highest now w = blame (with_stall Calm w) Missing
-stall_by (At e) next staged highest now w = cond (blocks next staged highest e w) (stall_at e now w) (blame (with_stall Calm w) Missing)
+abbrev pub stall_by : Option Entry → ℕ → ℕ → Option ℕ → ℕ → Window → Blame
+stall_by None next staged highest now w = blame (with_stall None w) None
+stall_by (Some e) next staged highest now w = cond (blocks next staged highest e w) (stall_at e now w) (blame (with_stall None w) None)
 
-unfoldable pub advance_stall : ℕ → ℕ → Height → ℕ → Window → Blame
+unfoldable pub advance_stall : ℕ → ℕ → Option ℕ → ℕ → Window → Blame
 advance_stall next staged highest now w = stall_by (lowest w.queue.pending) next staged highest now w
 
 -- ---- the pending timeout
 
-abbrev pub still_owned : Front → ℕ → Bool
-still_owned Nothing owner = false
-still_owned (At e) owner = eqb e.owner owner
+abbrev pub still_owned : Option Entry → ℕ → Bool
+still_owned None owner = false
+still_owned (Some e) owner = eqb e.owner owner
 
-abbrev pub armed_by : Front → Observation
-armed_by Nothing = Unarmed
-armed_by (At e) = Armed e.owner e.hash
+abbrev pub armed_by : Option Entry → Observation
+armed_by None = Unarmed
+armed_by (Some e) = Armed e.owner e.hash
 
 -- the lowest entry of an expired owner
-unfoldable pub lowest_expired : ℕ → Window → Front
+unfoldable pub lowest_expired : ℕ → Window → Option Entry
 lowest_expired now w = lowest (select (λ e. owner_download_expired e.owner (active w) now w) w.queue.pending)
 
 -- a spent observation blames or ends; without one the lowest expired entry arms one
 abbrev pub timeout_by : Observation → ℕ → Window → Blame
-timeout_by Unarmed now w = blame (with_observation (armed_by (lowest_expired now w)) w) Missing
-timeout_by (Swept owner h) now w = blame (mark_peer_unresponsive owner now (with_observation Unarmed w)) (From owner)
+timeout_by Unarmed now w = blame (with_observation (armed_by (lowest_expired now w)) w) None
+timeout_by (Swept owner h) now w = blame (mark_peer_unresponsive owner now (with_observation Unarmed w)) (Some owner)
 timeout_by (Armed owner h) now w =
     cond (still_owned (found h w.queue.pending) owner && owner_download_expired owner (active w) now w)
-    (blame (mark_peer_unresponsive owner now (with_observation Unarmed w)) (From owner))
-    (blame (with_observation Unarmed w) Missing)
+    (blame (mark_peer_unresponsive owner now (with_observation Unarmed w)) (Some owner))
+    (blame (with_observation Unarmed w) None)
 
 -- `advance_pending_timeout`, by the window's own active count
 unfoldable pub advance_pending_timeout : ℕ → Window → Blame
@@ -164,18 +154,18 @@ evict_says next (evicts h suppressed) = evict next h suppressed
 abbrev pub timeout_seen : Blame → Hedge → Seen
 timeout_seen b h = seen b.window (says b.blamed h)
   where
-    says : Source → Hedge → Decision
-    says Missing h = hedge_says h
-    says (From owner) h = blame_timeout owner
+    says : Option ℕ → Hedge → Decision
+    says None h = hedge_says h
+    says (Some owner) h = blame_timeout owner
 
-abbrev pub stall_seen : Source → Window → Hedge → ℕ → Seen
-stall_seen Missing w h now = timeout_seen (advance_pending_timeout now w) h
-stall_seen (From owner) w h now = seen w (blame_staller owner)
+abbrev pub stall_seen : Option ℕ → Window → Hedge → ℕ → Seen
+stall_seen None w h now = timeout_seen (advance_pending_timeout now w) h
+stall_seen (Some owner) w h now = seen w (blame_staller owner)
 
 -- busy: stall and observation are cleared, and the cold front unless it races
 unfoldable pub busy_seen : Decision → Window → Seen
 busy_seen d w =
-    let v = with_observation Unarmed (with_stall Calm w) in
+    let v = with_observation Unarmed (with_stall None w) in
     seen (cond (is_racing v.races.cold) v (with_cold Idle v)) d
 
 -- cold front, then stall, then pending timeout
@@ -186,9 +176,9 @@ idle_seen l next now w =
     stall_seen b.blamed b.window c.asks now
 
 -- `observe_blocked`; without a next height the stuck, cold front and stall steps are passed by
-abbrev pub observe_at : Height → Look → ℕ → Window → Seen
-observe_at Unknown l now w = cond l.busy (busy_seen none w) (timeout_seen (advance_pending_timeout now w) no_hedge)
-observe_at (Known next) l now w =
+abbrev pub observe_at : Option ℕ → Look → ℕ → Window → Seen
+observe_at None l now w = cond l.busy (busy_seen none w) (timeout_seen (advance_pending_timeout now w) no_hedge)
+observe_at (Some next) l now w =
     let s = advance_apply_side_stuck next l.frontier l.busy now w in
     let v = with_stuck s.stuck w in
     cond l.busy (busy_seen (evict_says next s.evicted) v) (idle_seen l next now v)

@@ -1,5 +1,5 @@
 -- What every public call answers and leaves, on the lent words and the lent report. Definitions only.
-use Rattle.std.specs.Prelude.{ℕ, zero, suc, List, [], ◌∷◌, ◌++◌, length, drop}
+use Rattle.std.specs.Prelude.{ℕ, zero, suc, List, [], ◌∷◌, ◌++◌, length, drop, None, Some, Option}
 use Rattle.model.specs.Numbers.{read_clock}
 use Rattle.model.specs.Hash.{hash_words}
 use Rattle.model.specs.Window.{Window, Step, with_clock}
@@ -15,8 +15,7 @@ use Rattle.model.specs.Queries.{flag, query_values}
 use Rattle.model.specs.Layout.{encode, window_of}
 use Rattle.model.specs.Refusals.{Change, Call, opens, changes, queries, Moment, timeless, at, checks, refusal, requests, fetches, receives, credits, credits_duplicate, rejects, expires, requeues, releases, retires, retains, marks_unresponsive, confirms_probe, confirms_hedge, observes, sets_fanout, clears_preferred, plans, plans_retry}
 use Rattle.model.specs.declared.Release.{Release}
-use Rattle.model.specs.declared.Front.{Front}
-use Rattle.model.specs.declared.Front.TheVariants.{Nothing, At}
+use Rattle.model.specs.declared.Entry.{Entry}
 
 -- ---- what an accepted change does
 
@@ -55,9 +54,9 @@ fetch_values asked = 2 ∷ []
 fetch_values no_capacity = 3 ∷ []
 
 -- the height of the entry that was delivered, where there was one
-abbrev pub height_values : Front → List ℕ
-height_values Nothing = []
-height_values (At e) = e.height ∷ []
+abbrev pub height_values : Option Entry → List ℕ
+height_values None = []
+height_values (Some e) = e.height ∷ []
 
 abbrev pub decision_values : Decision → List ℕ
 decision_values none = 0 ∷ []

@@ -2,7 +2,7 @@
 -- Branch retargeting is left out. The Rust walks the chain down from the end of its reach and takes the last it saw; here the same heights rise,
 -- and the first are taken. A hash that is already in the plan is passed by like a pending one: on a chain that names no hash twice that is what the
 -- Rust does.
-use Rattle.std.specs.Prelude.{ℕ, suc, ◌+◌, ◌-◌, ◌/◌, Bool, false, cond, not, ◌&&◌, ◌||◌, List, [], ◌∷◌, ◌++◌, map, length, take, drop, eqb, ltb, leb}
+use Rattle.std.specs.Prelude.{ℕ, suc, ◌+◌, ◌-◌, ◌/◌, Bool, false, cond, not, ◌&&◌, ◌||◌, List, [], ◌∷◌, ◌++◌, map, length, take, drop, eqb, ltb, leb, None, Some, Option}
 use Rattle.model.specs.Numbers.{lesser, greater, next_height}
 use Rattle.model.specs.Lists.{any, select, every}
 use Rattle.model.specs.Hash.{same, hashes_in}
@@ -16,8 +16,6 @@ use Rattle.model.specs.Races.{is_empty, by_height}
 use Rattle.model.specs.Calls.{Ask}
 use Rattle.model.specs.declared.Hash.{Hash}
 use Rattle.model.specs.declared.Release.{Release}
-use Rattle.model.specs.declared.Height.{Height}
-use Rattle.model.specs.declared.Height.TheVariants.{Unknown, Known}
 
 -- ---- what is lent and said for one plan
 
@@ -72,19 +70,19 @@ first_named seen (a ∷ rest) = cond (any (same a.hash) seen) (first_named seen 
 
 -- ---- `RefusalFilter`: the lowest refused height so far
 
-abbrev pub lower_of : Height → ℕ → Height
-lower_of Unknown n = Known n
-lower_of (Known m) n = Known (lesser m n)
+abbrev pub lower_of : Option ℕ → ℕ → Option ℕ
+lower_of None n = Some n
+lower_of (Some m) n = Some (lesser m n)
 
 -- `keep`, of one after the other: what it notes
-unfoldable pub noticed : Lent → List Ask → Height → Height
+unfoldable pub noticed : Lent → List Ask → Option ℕ → Option ℕ
 noticed l [] low = low
 noticed l (a ∷ rest) low = noticed l rest (cond (is_refused l a) (lower_of low a.height) low)
 
 -- `min_refused` holds the next height back, not below the frontier
-abbrev pub held_back : Height → ℕ → ℕ → ℕ
-held_back Unknown frontier next = next
-held_back (Known low) frontier next = greater (lesser next low) frontier
+abbrev pub held_back : Option ℕ → ℕ → ℕ → ℕ
+held_back None frontier next = next
+held_back (Some low) frontier next = greater (lesser next low) frontier
 
 -- ---- a plan
 
@@ -92,9 +90,9 @@ held_back (Known low) frontier next = greater (lesser next low) frontier
 pub record Draft : Type 0 where
   pub asks : List Ask
   pub bytes : ℕ
-  pub low : Height
+  pub low : Option ℕ
 
-abbrev pub draft : List Ask → ℕ → Height → Draft
+abbrev pub draft : List Ask → ℕ → Option ℕ → Draft
 draft asks bytes low = record { asks = asks; bytes = bytes; low = low }
 
 -- `RequestScan`, and what it is about
@@ -129,7 +127,7 @@ abbrev pub and_ask : Ask → Draft → Draft
 and_ask a d = draft (a ∷ d.asks) d.bytes d.low
 
 -- `expired_request_entries`: up to `room` of them, each takes the mean off the bytes; a refused one is noted before anything else is asked of it
-unfoldable pub expired_request_entries : Lent → Window → List Ask → ℕ → ℕ → Height → Draft
+unfoldable pub expired_request_entries : Lent → Window → List Ask → ℕ → ℕ → Option ℕ → Draft
 expired_request_entries l w [] room bytes low = draft [] bytes low
 expired_request_entries l w (a ∷ rest) room bytes low =
     cond (eqb room 0 || ltb bytes w.mean) (draft [] bytes low)
@@ -217,7 +215,7 @@ request_from l t s d =
 abbrev pub request_by : Capacity → Lent → Step → Proposal
 request_by no_capacity l swept = no_request swept
 request_by (capacity batch bytes) l swept =
-    let d = expired_request_entries l swept.window (swept_asks swept.gone) batch bytes Unknown in
+    let d = expired_request_entries l swept.window (swept_asks swept.gone) batch bytes None in
     let t = after swept (maybe_rewind_request_frontier l) in
     request_from l t (scan_of l t.window batch d) d
 

@@ -1,5 +1,5 @@
 -- The queries, and the values of their answers. A query writes nothing. Definitions only.
-use Rattle.std.specs.Prelude.{ℕ, zero, suc, Bool, true, false, List, [], ◌∷◌, length, get_or}
+use Rattle.std.specs.Prelude.{ℕ, zero, suc, Bool, true, false, List, [], ◌∷◌, length, get_or, None, Some, Option}
 use Rattle.model.specs.Numbers.{read_clock}
 use Rattle.model.specs.Hash.{hashes_words}
 use Rattle.model.specs.Window.{Window}
@@ -12,14 +12,9 @@ use Rattle.model.specs.Capacity.{Capacity, no_capacity, capacity, has_request_ca
 use Rattle.model.specs.LettingGo.{forecast_blocks, forecast_bytes}
 use Rattle.model.specs.Races.{Planned, no_plan, planned, prefix_probe_plan, probe_offered, hedge_offered}
 use Rattle.model.specs.declared.Hash.{Hash}
-use Rattle.model.specs.declared.Front.{Front}
-use Rattle.model.specs.declared.Front.TheVariants.{Nothing, At}
-use Rattle.model.specs.declared.Source.{Source}
-use Rattle.model.specs.declared.Source.TheVariants.{Missing, From}
-use Rattle.model.specs.declared.Stall.{Stall}
-use Rattle.model.specs.declared.Stall.TheVariants.{Calm, Episode}
-use Rattle.model.specs.declared.Probe.{Probe}
-use Rattle.model.specs.declared.Probe.TheVariants.{NoProbe, Probing}
+use Rattle.model.specs.declared.StallEpisode.{StallEpisode}
+use Rattle.model.specs.declared.PrefixProbe.{PrefixProbe}
+use Rattle.model.specs.declared.Entry.{Entry}
 
 -- those without an argument, by the Rust's names; `ewma_block_bytes` is the mean, `request_cursor` the frontier
 pub data Reading : Type 0 where
@@ -54,22 +49,23 @@ abbrev pub perhaps : ℕ → List ℕ
 perhaps zero = []
 perhaps (suc n) = n ∷ []
 
-abbrev pub source_values : Source → List ℕ
-source_values Missing = []
-source_values (From s) = s ∷ []
+-- a number that may be missing, a seat among them
+abbrev pub source_values : Option ℕ → List ℕ
+source_values None = []
+source_values (Some s) = s ∷ []
 
-abbrev pub owner_values : Front → List ℕ
-owner_values Nothing = []
-owner_values (At e) = e.owner ∷ []
+abbrev pub owner_values : Option Entry → List ℕ
+owner_values None = []
+owner_values (Some e) = e.owner ∷ []
 
 -- the key, since the Rust says the endpoint, and the start of the episode
-abbrev pub stall_values : Stall → Window → List ℕ
-stall_values Calm w = []
-stall_values (Episode owner h since) w = key_of owner w ∷ since ∷ []
+abbrev pub stall_values : Option StallEpisode → Window → List ℕ
+stall_values None w = []
+stall_values (Some s) w = key_of s.owner w ∷ s.since ∷ []
 
-abbrev pub probe_values : Probe → List ℕ
-probe_values NoProbe = []
-probe_values (Probing owner accepted started) = started ∷ []
+abbrev pub probe_values : Option PrefixProbe → List ℕ
+probe_values None = []
+probe_values (Some p) = p.started ∷ []
 
 abbrev pub capacity_values : Capacity → List ℕ
 capacity_values no_capacity = []

@@ -1,24 +1,19 @@
 -- SPECIFICATION 6.8 to 6.10: the prefix probe and the cold front. Definitions only.
-use Rattle.std.specs.Prelude.{ℕ, zero, suc, ◌-◌, ◌*◌, ◌/◌, ◌%◌, ◌^◌, Bool, true, false, cond, not, ◌&&◌, ◌||◌, List, [], ◌∷◌, ◌++◌, length, get_or, set, eqb, ltb, leb}
+use Rattle.std.specs.Prelude.{ℕ, zero, suc, ◌-◌, ◌*◌, ◌/◌, ◌%◌, ◌^◌, Bool, true, false, cond, not, ◌&&◌, ◌||◌, List, [], ◌∷◌, ◌++◌, length, get_or, set, eqb, ltb, leb, None, Some, Option}
 use Rattle.std.specs.Int.Bits.{bit_or}
 use Rattle.std.specs.Int.Count.{ones}
 use Rattle.model.specs.Numbers.{lesser, present, next_height}
 use Rattle.model.specs.Lists.{any}
 use Rattle.model.specs.Hash.{same, same_hashes, hashes_in}
-use Rattle.model.specs.Window.{Window, Step, stay, after, with_cold, with_hedged, with_preferred, with_probe, with_attempted, without_probe, with_observation, no_seats}
+use Rattle.model.specs.Window.{Window, Step, stay, after, with_cold, with_hedged, with_preferred, with_probe, with_attempted, without_probe, with_observation, no_seats, probing}
 use Rattle.model.specs.Records.{lowest, at_height}
 use Rattle.model.specs.Cooling.{mark_peer_unresponsive}
 use Rattle.model.specs.LettingGo.{retain_peer_assignments}
 use Rattle.model.specs.declared.Hash.{Hash}
 use Rattle.model.specs.declared.Entry.{Entry}
-use Rattle.model.specs.declared.Front.{Front}
-use Rattle.model.specs.declared.Front.TheVariants.{Nothing, At}
-use Rattle.model.specs.declared.Source.{Source}
-use Rattle.model.specs.declared.Source.TheVariants.{Missing, From}
 use Rattle.model.specs.declared.ColdFront.{ColdFront}
 use Rattle.model.specs.declared.ColdFront.TheVariants.{Idle, Waiting, Racing}
-use Rattle.model.specs.declared.Probe.{Probe}
-use Rattle.model.specs.declared.Probe.TheVariants.{NoProbe, Probing}
+use Rattle.model.specs.declared.PrefixProbe.{PrefixProbe}
 use Rattle.model.specs.declared.Observation.TheVariants.{Unarmed}
 
 -- ---- the plan
@@ -59,22 +54,22 @@ expected_after (h ∷ hs) expected = expected_after hs (next_height expected)
 unfoldable pub plan_from : ℕ → ℕ → List Hash → Planned
 plan_from owner first hashes = cond (leb win_blocks (length hashes)) (planned owner hashes (expected_after hashes first - 1)) no_plan
 
-abbrev pub is_missing : Source → Bool
-is_missing Missing = true
-is_missing (From s) = false
+abbrev pub is_missing : Option ℕ → Bool
+is_missing None = true
+is_missing (Some s) = false
 
-abbrev pub is_seat : Source → ℕ → Bool
-is_seat Missing s = false
-is_seat (From p) s = eqb p s
+abbrev pub is_seat : Option ℕ → ℕ → Bool
+is_seat None s = false
+is_seat (Some p) s = eqb p s
 
-abbrev pub is_probing : Probe → Bool
-is_probing NoProbe = false
-is_probing (Probing owner accepted started) = true
+abbrev pub is_probing : Option PrefixProbe → Bool
+is_probing None = false
+is_probing (Some p) = true
 
 -- by the lowest entry: one owner only, who was not raced yet, and a limit of at least four
-abbrev pub plan_by : Front → Window → Planned
-plan_by Nothing w = no_plan
-plan_by (At front) w =
+abbrev pub plan_by : Option Entry → Window → Planned
+plan_by None w = no_plan
+plan_by (Some front) w =
     cond (is_seat w.races.attempted front.owner || any (λ e. not (eqb e.owner front.owner)) w.queue.pending) no_plan
     (cond (ltb (plan_limit w.mean) win_blocks) no_plan
     (plan_from front.owner front.height (walk (plan_limit w.mean) front.height (by_height w.queue.pending))))
@@ -94,7 +89,7 @@ entered (s ∷ ss) racers = entered ss (set racers s 1)
 
 unfoldable pub probe_started : ℕ → List Hash → List ℕ → ℕ → Window → Window
 probe_started owner hashes alternates now w =
-    with_probe (Probing owner 0 now) hashes (entered alternates (set no_seats owner 1)) (with_attempted (From owner) w)
+    with_probe (probing owner 0 now) hashes (entered alternates (set no_seats owner 1)) (with_attempted (Some owner) w)
 
 abbrev pub confirm_by : Planned → ℕ → List ℕ → List ℕ → ℕ → Window → Window
 confirm_by no_plan owner given alternates now w = w
@@ -131,22 +126,22 @@ has_won zero = false
 has_won (suc p) = all_four p
 
 -- the lowest seat from i on that has won
-unfoldable pub winner : ℕ → List ℕ → Source
-winner i [] = Missing
-winner i (r ∷ rs) = cond (has_won r) (From i) (winner (suc i) rs)
+unfoldable pub winner : ℕ → List ℕ → Option ℕ
+winner i [] = None
+winner i (r ∷ rs) = cond (has_won r) (Some i) (winner (suc i) rs)
 
 -- SPECIFICATION 6.9: a win lets go the entries of every other racer; an owner that did not win is cooled
 unfoldable pub race_won : ℕ → ℕ → List ℕ → ℕ → Window → Step
 race_won win owner racers now w =
     after
     (retain_peer_assignments (λ s. eqb s win || not (present (get_or racers s 0))) 9 (with_observation Unarmed (with_cold Idle (without_probe w))))
-    (λ v. with_preferred (From win) (cond (eqb win owner) v (mark_peer_unresponsive owner now v)))
+    (λ v. with_preferred (Some win) (cond (eqb win owner) v (mark_peer_unresponsive owner now v)))
 
 -- without a winner the probe goes on, unless all four are in
-abbrev pub race_by : Source → ℕ → ℕ → ℕ → List ℕ → ℕ → Window → Step
-race_by Missing owner accepted started racers now w =
-    stay (cond (all_four accepted) (without_probe w) (with_probe (Probing owner accepted started) w.races.planned racers w))
-race_by (From win) owner accepted started racers now w = race_won win owner racers now w
+abbrev pub race_by : Option ℕ → ℕ → ℕ → ℕ → List ℕ → ℕ → Window → Step
+race_by None owner accepted started racers now w =
+    stay (cond (all_four accepted) (without_probe w) (with_probe (probing owner accepted started) w.races.planned racers w))
+race_by (Some win) owner accepted started racers now w = race_won win owner racers now w
 
 -- the planned hash at the place i came from the source
 unfoldable pub race_progress : ℕ → ℕ → ℕ → ℕ → ℕ → ℕ → Window → Step
@@ -154,11 +149,11 @@ race_progress i source owner accepted started now w =
     let racers = set w.races.racers source (progressed i (get_or w.races.racers source 0)) in
     race_by (winner 0 racers) owner (bit_or accepted (2 ^ i)) started racers now w
 
-abbrev pub probe_delivery : Probe → Hash → ℕ → ℕ → Window → Step
-probe_delivery NoProbe h source now w = stay w
-probe_delivery (Probing owner accepted started) h source now w =
+abbrev pub probe_delivery : Option PrefixProbe → Hash → ℕ → ℕ → Window → Step
+probe_delivery None h source now w = stay w
+probe_delivery (Some p) h source now w =
     let i = place_of h w.races.planned in
-    cond (ltb i (length w.races.planned)) (race_progress i source owner accepted started now w) (stay w)
+    cond (ltb i (length w.races.planned)) (race_progress i source p.owner p.accepted p.started now w) (stay w)
 
 -- `record_prefix_probe_delivery`
 unfoldable pub record_prefix_probe_delivery : Hash → ℕ → ℕ → Window → Step
@@ -196,9 +191,9 @@ wait_on (Waiting owner h since) e initial now =
     (cold_step (Waiting e.owner e.hash now) no_hedge)
 
 -- a missing front ends the step
-abbrev pub cold_at : Front → ColdFront → ℕ → ℕ → ColdStep
-cold_at Nothing cold initial now = cold_step Idle no_hedge
-cold_at (At e) cold initial now = wait_on cold e initial now
+abbrev pub cold_at : Option Entry → ColdFront → ℕ → ℕ → ColdStep
+cold_at None cold initial now = cold_step Idle no_hedge
+cold_at (Some e) cold initial now = wait_on cold e initial now
 
 abbrev pub is_racing : ColdFront → Bool
 is_racing Idle = false
@@ -240,7 +235,7 @@ confirm_cold_front_hedge owner alternate h w =
 unfoldable pub hedge_lost : ℕ → ℕ → ℕ → Window → Step
 hedge_lost owner alternate now w =
     after (retain_peer_assignments (λ s. not (eqb s owner)) 10 (without_probe w))
-    (λ v. with_preferred (From alternate) (mark_peer_unresponsive owner now v))
+    (λ v. with_preferred (Some alternate) (mark_peer_unresponsive owner now v))
 
 abbrev pub resolve_by : ColdFront → Hash → ℕ → ℕ → Window → Step
 resolve_by Idle h source now w = stay w

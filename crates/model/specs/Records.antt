@@ -1,11 +1,9 @@
 -- SPECIFICATION 6.3: the records, strictly rising by hash. Definitions only.
-use Rattle.std.specs.Prelude.{ℕ, ◌+◌, Bool, true, false, cond, List, [], ◌∷◌, eqb, leb}
+use Rattle.std.specs.Prelude.{ℕ, ◌+◌, Bool, true, false, cond, List, [], ◌∷◌, eqb, leb, None, Some, Option}
 use Rattle.model.specs.Lists.{count}
 use Rattle.model.specs.Hash.{same, less}
 use Rattle.model.specs.declared.Hash.{Hash}
 use Rattle.model.specs.declared.Entry.{Entry}
-use Rattle.model.specs.declared.Front.{Front}
-use Rattle.model.specs.declared.Front.TheVariants.{Nothing, At}
 
 -- an entry is built here alone
 unfoldable pub new_entry : Hash → ℕ → ℕ → ℕ → ℕ → Entry
@@ -22,29 +20,29 @@ remove h [] = []
 remove h (x ∷ l) = cond (same x.hash h) l (x ∷ remove h l)
 
 -- `pending.get`
-unfoldable pub found : Hash → List Entry → Front
-found h [] = Nothing
-found h (x ∷ l) = cond (same x.hash h) (At x) (found h l)
+unfoldable pub found : Hash → List Entry → Option Entry
+found h [] = None
+found h (x ∷ l) = cond (same x.hash h) (Some x) (found h l)
 
 -- `contains_pending`
-abbrev pub is_there : Front → Bool
-is_there Nothing = false
-is_there (At e) = true
+abbrev pub is_there : Option Entry → Bool
+is_there None = false
+is_there (Some e) = true
 
 -- the lower of an entry and the lowest of those that rise after it
-abbrev pub lower : Entry → Front → Front
-lower e Nothing = At e
-lower e (At x) = cond (leb e.height x.height) (At e) (At x)
+abbrev pub lower : Entry → Option Entry → Option Entry
+lower e None = Some e
+lower e (Some x) = cond (leb e.height x.height) (Some e) (Some x)
 
 -- `min_by_key(height)`; SPECIFICATION 6.3: equal heights, lower hash
-unfoldable pub lowest : List Entry → Front
-lowest [] = Nothing
+unfoldable pub lowest : List Entry → Option Entry
+lowest [] = None
 lowest (e ∷ l) = lower e (lowest l)
 
 -- `find(height ==)`: the entry at a height, the lower hash first
-unfoldable pub at_height : ℕ → List Entry → Front
-at_height n [] = Nothing
-at_height n (e ∷ l) = cond (eqb e.height n) (At e) (at_height n l)
+unfoldable pub at_height : ℕ → List Entry → Option Entry
+at_height n [] = None
+at_height n (e ∷ l) = cond (eqb e.height n) (Some e) (at_height n l)
 
 -- the estimates of some entries
 unfoldable pub sum : List Entry → ℕ

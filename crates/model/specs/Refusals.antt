@@ -1,5 +1,5 @@
 -- Every public call with its arguments, what it checks, and the refusals 1 to 10 and 12. Definitions only.
-use Rattle.std.specs.Prelude.{ℕ, suc, ◌+◌, ◌*◌, Bool, true, false, cond, not, ◌&&◌, List, [], ◌∷◌, length, eqb, leb}
+use Rattle.std.specs.Prelude.{ℕ, suc, ◌+◌, ◌*◌, Bool, true, false, cond, not, ◌&&◌, List, [], ◌∷◌, length, eqb, leb, None, Some, Option}
 use Rattle.model.specs.Places.{seats, word_count}
 use Rattle.model.specs.Numbers.{max_clock, max_pending, max_seat, max_body, clock_ok}
 use Rattle.model.specs.Lists.{all, any, every}
@@ -13,9 +13,6 @@ use Rattle.model.specs.Queries.{Query, reads, asks_request_capacity, asks_comput
 use Rattle.model.specs.Layout.{settings_ok, window_of, is_window}
 use Rattle.model.specs.declared.Hash.{Hash}
 use Rattle.model.specs.declared.Settings.{Settings}
-use Rattle.model.specs.declared.Source.{Source}
-use Rattle.model.specs.declared.Source.TheVariants.{Missing, From}
-use Rattle.model.specs.declared.Height.{Height}
 
 -- the calls that may change an opened window; c is the clock
 pub data Change : Type 0 where
@@ -24,17 +21,17 @@ pub data Change : Type 0 where
   -- c, owner, hash, height, whether it is staged, byte headroom, count headroom
   fetches : ℕ → ℕ → Hash → ℕ → Bool → ℕ → ℕ → Change
   -- c, hash, bytes, source
-  receives : ℕ → Hash → ℕ → Source → Change
+  receives : ℕ → Hash → ℕ → Option ℕ → Change
   -- c, hash, source, pending height
-  credits : ℕ → Hash → ℕ → Height → Change
+  credits : ℕ → Hash → ℕ → Option ℕ → Change
   -- hash, source
   credits_duplicate : Hash → ℕ → Change
   -- c, hash, source
-  rejects : ℕ → Hash → Source → Change
+  rejects : ℕ → Hash → Option ℕ → Change
   -- c
   expires : ℕ → Change
   -- c, hash, named height
-  requeues : ℕ → Hash → Height → Change
+  requeues : ℕ → Hash → Option ℕ → Change
   -- c, hash
   releases : ℕ → Hash → Change
   -- c, height
@@ -91,9 +88,9 @@ test n ok rest = cond ok rest n
 abbrev pub seat_ok : ℕ → Bool
 seat_ok s = leb s max_seat
 
-abbrev pub source_ok : Source → Bool
-source_ok Missing = true
-source_ok (From s) = seat_ok s
+abbrev pub source_ok : Option ℕ → Bool
+source_ok None = true
+source_ok (Some s) = seat_ok s
 
 -- 6: 256 keys
 unfoldable pub keys_ok : List ℕ → Bool

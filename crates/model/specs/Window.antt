@@ -1,6 +1,6 @@
 -- The window: the state that every definition works on, the Rust's `DownloadWindow` without what SPECIFICATION 1.7 leaves out. Definitions only.
 -- Seats, keys and racers are lists of 256 numbers; a missing time is 0 there and a time t is t + 1.
-use Rattle.std.specs.Prelude.{ℕ, List, [], ◌++◌, replicate}
+use Rattle.std.specs.Prelude.{ℕ, List, [], ◌++◌, replicate, Option, None, Some}
 use Rattle.model.specs.Places.{seats}
 use Rattle.model.specs.declared.Hash.{Hash}
 use Rattle.model.specs.declared.Entry.{Entry}
@@ -8,12 +8,10 @@ use Rattle.model.specs.declared.Release.{Release}
 use Rattle.model.specs.declared.Settings.{Settings}
 use Rattle.model.specs.declared.Pace.{Pace}
 use Rattle.model.specs.declared.Fanout.{Fanout}
-use Rattle.model.specs.declared.Source.{Source}
-use Rattle.model.specs.declared.Stall.{Stall}
-use Rattle.model.specs.declared.Stuck.{Stuck}
+use Rattle.model.specs.declared.StallEpisode.{StallEpisode}
+use Rattle.model.specs.declared.StuckFrontier.{StuckFrontier}
 use Rattle.model.specs.declared.ColdFront.{ColdFront}
-use Rattle.model.specs.declared.Probe.{Probe}
-use Rattle.model.specs.declared.Probe.TheVariants.{NoProbe}
+use Rattle.model.specs.declared.PrefixProbe.{PrefixProbe}
 use Rattle.model.specs.declared.Observation.{Observation}
 
 -- `pending_bytes`; `pending`, strictly rising by hash; `owner_downloading_since` and `owner_last_body_at` by seat
@@ -33,16 +31,16 @@ pub record HighWater : Type 0 where
 pub record Races : Type 0 where
   pub cold : ColdFront
   pub hedged : List Hash
-  pub preferred : Source
-  pub probe : Probe
+  pub preferred : Option ℕ
+  pub probe : Option PrefixProbe
   pub planned : List Hash
   pub racers : List ℕ
-  pub attempted : Source
+  pub attempted : Option ℕ
 
 -- `stall`, `apply_side_stuck`, `pending_timeout_observation`
 pub record Watch : Type 0 where
-  pub stall : Stall
-  pub stuck : Stuck
+  pub stall : Option StallEpisode
+  pub stuck : Option StuckFrontier
   pub observation : Observation
 
 -- `budget`; a key for each seat (`StallerKey`); the last accepted clock; `ewma_block_bytes`; `next_request_height`; `recent_stallers` by key
@@ -59,6 +57,17 @@ pub record Window : Type 0 where
   pub pace : Pace
   pub races : Races
   pub watch : Watch
+
+-- ---- the states in `Races` and `Watch`, where there is one
+
+abbrev pub probing : ℕ → ℕ → ℕ → Option PrefixProbe
+probing owner accepted started = Some (record { owner = owner; accepted = accepted; started = started })
+
+abbrev pub episode : ℕ → Hash → ℕ → Option StallEpisode
+episode owner front since = Some (record { owner = owner; front = front; since = since })
+
+abbrev pub stuck_at : ℕ → Hash → ℕ → Option StuckFrontier
+stuck_at height front since = Some (record { height = height; front = front; since = since })
 
 -- ---- one part changed, the others as they were
 
@@ -111,7 +120,7 @@ with_watch wa w = window w.settings w.keys w.clock w.mean w.frontier w.high w.qu
 abbrev pub queue : ℕ → List Entry → List ℕ → List ℕ → Queue
 queue total pending starts bodies = record { total = total; pending = pending; starts = starts; bodies = bodies }
 
-abbrev pub races : ColdFront → List Hash → Source → Probe → List Hash → List ℕ → Source → Races
+abbrev pub races : ColdFront → List Hash → Option ℕ → Option PrefixProbe → List Hash → List ℕ → Option ℕ → Races
 races cold hedged preferred probe planned racers attempted =
     record { cold = cold; hedged = hedged; preferred = preferred; probe = probe; planned = planned; racers = racers; attempted = attempted }
 
@@ -121,23 +130,23 @@ with_cold c w = let r = w.races in with_races (races c r.hedged r.preferred r.pr
 abbrev pub with_hedged : List Hash → Window → Window
 with_hedged hs w = let r = w.races in with_races (races r.cold hs r.preferred r.probe r.planned r.racers r.attempted) w
 
-abbrev pub with_preferred : Source → Window → Window
+abbrev pub with_preferred : Option ℕ → Window → Window
 with_preferred s w = let r = w.races in with_races (races r.cold r.hedged s r.probe r.planned r.racers r.attempted) w
 
 -- a probe with its hashes and racers
-abbrev pub with_probe : Probe → List Hash → List ℕ → Window → Window
+abbrev pub with_probe : Option PrefixProbe → List Hash → List ℕ → Window → Window
 with_probe p hs rs w = let r = w.races in with_races (races r.cold r.hedged r.preferred p hs rs r.attempted) w
 
-abbrev pub with_attempted : Source → Window → Window
+abbrev pub with_attempted : Option ℕ → Window → Window
 with_attempted s w = let r = w.races in with_races (races r.cold r.hedged r.preferred r.probe r.planned r.racers s) w
 
-abbrev pub watch : Stall → Stuck → Observation → Watch
+abbrev pub watch : Option StallEpisode → Option StuckFrontier → Observation → Watch
 watch stall stuck observation = record { stall = stall; stuck = stuck; observation = observation }
 
-abbrev pub with_stall : Stall → Window → Window
+abbrev pub with_stall : Option StallEpisode → Window → Window
 with_stall s w = with_watch (watch s w.watch.stuck w.watch.observation) w
 
-abbrev pub with_stuck : Stuck → Window → Window
+abbrev pub with_stuck : Option StuckFrontier → Window → Window
 with_stuck s w = with_watch (watch w.watch.stall s w.watch.observation) w
 
 abbrev pub with_observation : Observation → Window → Window
@@ -149,7 +158,7 @@ no_seats = replicate seats 0
 
 -- `self.prefix_probe = None`: with it go its hashes and racers
 abbrev pub without_probe : Window → Window
-without_probe w = with_probe NoProbe [] no_seats w
+without_probe w = with_probe None [] no_seats w
 
 -- ---- a step that may let go entries
 

@@ -1,5 +1,8 @@
-// Types that code and definitions share, and the names of places, sizes and limits. No code.
+// Types that code and definitions share, and the names of places, sizes and limits.
 #![tactic(auto)]
+
+ghost use Rattle.std.specs.Prelude.{◌≡◌};
+ghost use Rattle.model.specs.Says.{number};
 
 pub mod at;
 pub mod head;
@@ -71,46 +74,20 @@ pub struct Fanout {
     pub engaged: bool,
 }
 
-// A peer's seat that may be missing.
+// `StallEpisode`: the owner of the front that holds the chain back, that front's hash, and since when.
 #[derive(Clone, Copy)]
-pub enum Source {
-    Missing,
-    From(u64),
+pub struct StallEpisode {
+    pub owner: u64,
+    pub front: Hash,
+    pub since: u64,
 }
 
-// A height that may be missing.
+// `ApplySideStuck`: the height that is not applied, the frontier's hash, and since when.
 #[derive(Clone, Copy)]
-pub enum Height {
-    Unknown,
-    Known(u64),
-}
-
-// A hash that may be missing.
-#[derive(Clone, Copy)]
-pub enum Sought {
-    NoHash,
-    Exactly(Hash),
-}
-
-// An entry that may be missing: the lowest, or the one of a hash.
-#[derive(Clone, Copy)]
-pub enum Front {
-    Nothing,
-    At(Entry),
-}
-
-// `StallEpisode`, where there is one: owner, front hash, since.
-#[derive(Clone, Copy)]
-pub enum Stall {
-    Calm,
-    Episode(u64, Hash, u64),
-}
-
-// `ApplySideStuck`, where there is one: height, frontier hash, since.
-#[derive(Clone, Copy)]
-pub enum Stuck {
-    Moving,
-    StuckAt(u64, Hash, u64),
+pub struct StuckFrontier {
+    pub height: u64,
+    pub front: Hash,
+    pub since: u64,
 }
 
 // `ColdFrontState`, where there is one: owner, hash, since; owner, alternate, hash.
@@ -121,11 +98,12 @@ pub enum ColdFront {
     Racing(u64, u64, Hash),
 }
 
-// `PrefixProbe`, where there is one: owner, accepted, started. Its hashes and its racers stand beside it.
+// `PrefixProbe`: its owner, which of its hashes came in, a bit for each, and when it started. Its hashes and its racers stand beside it.
 #[derive(Clone, Copy)]
-pub enum Probe {
-    NoProbe,
-    Probing(u64, u64, u64),
+pub struct PrefixProbe {
+    pub owner: u64,
+    pub accepted: u64,
+    pub started: u64,
 }
 
 // `PendingTimeoutObservation`, where there is one: owner, hash; `Swept` where its `expired_release` is set.
@@ -136,50 +114,64 @@ pub enum Observation {
     Swept(u64, Hash),
 }
 
-// What a call answers that says no more than that it was accepted.
+// Why a call is refused: SPECIFICATION 4.1 has a number for each, `number` of Says.antt.
 #[derive(Clone, Copy)]
-pub enum Accepted {
-    Refused(u64),
-    Done,
+pub enum Refusal {
+    WordCount,
+    NotAWindow,
+    ShortReport,
+    Clock,
+    Settings,
+    Seats,
+    Listed,
+    Many,
+    Body,
+    ShortOutput,
+    Payload,
+    Chain,
 }
 
-// What a call answers that lets go: how many places of the report it filled.
-#[derive(Clone, Copy)]
-pub enum LetGo {
-    Refused(u64),
-    Gone(u64),
-}
+// As the C interface says it.
+impl From<Refusal> for u64 {
+    ghost from_gives = { λ r n. n ≡ number r };
 
-// What `mark_requested` answers: whether there is capacity for more.
-#[derive(Clone, Copy)]
-pub enum Requested {
-    Refused(u64),
-    Full,
-    Room,
+    fn from(r: Refusal) -> u64 {
+        match r {
+            Refusal::WordCount => 1,
+            Refusal::NotAWindow => 2,
+            Refusal::ShortReport => 3,
+            Refusal::Clock => 4,
+            Refusal::Settings => 5,
+            Refusal::Seats => 6,
+            Refusal::Listed => 7,
+            Refusal::Many => 8,
+            Refusal::Body => 9,
+            Refusal::ShortOutput => 10,
+            Refusal::Payload => 11,
+            Refusal::Chain => 12,
+        }
+    }
 }
 
 // What `mark_owned_fetch` answers: the Rust's true, true, true, false.
 #[derive(Clone, Copy)]
 pub enum Fetch {
-    Refused(u64),
     Held,
     Staged,
     Asked,
     NoCapacity,
 }
 
-// What `mark_received_from` answers: places filled, and the height where the block was pending.
+// What `mark_received_from` answers: places of the report filled, and the height where the block was pending.
 #[derive(Clone, Copy)]
-pub enum Received {
-    Refused(u64),
-    Unasked(u64),
-    Expected(u64, u64),
+pub struct Received {
+    pub places: u64,
+    pub height: Option<u64>,
 }
 
-// What `reject_delivery` answers: places filled where it released an entry.
+// What `reject_delivery` answers, by the Rust's names: places filled where it released an entry.
 #[derive(Clone, Copy)]
 pub enum Rejected {
-    Refused(u64),
     ReleasedPending(u64),
     DiscardedUnsolicited,
 }
@@ -187,7 +179,6 @@ pub enum Rejected {
 // What `observe_blocked` answers: a blamed owner, by staller or by pending timeout; height, hash and time of suppression; owner and hash.
 #[derive(Clone, Copy)]
 pub enum Blocked {
-    Refused(u64),
     NoDecision,
     BlameStaller(u64),
     BlamePendingTimeout(u64),
@@ -195,56 +186,24 @@ pub enum Blocked {
     HedgeColdFront(u64, Hash),
 }
 
-// What a query answers that says yes or no.
+// What `prefix_probe_plan` answers beside its hashes, where there is a plan.
 #[derive(Clone, Copy)]
-pub enum Truth {
-    Refused(u64),
-    Denied,
-    Affirmed,
+pub struct Plan {
+    pub owner: u64,
+    pub count: u64,
+    pub end_height: u64,
 }
 
-// What a query answers that says a number.
+// A request that is planned: the number of its entries, and its next height.
 #[derive(Clone, Copy)]
-pub enum Number {
-    Refused(u64),
-    Is(u64),
+pub struct Request {
+    pub count: u64,
+    pub next_height: u64,
 }
 
-// What a query answers that says two numbers.
+// What `next_peer_request` answers beside its lists: places of the report filled, and the request where there is one.
 #[derive(Clone, Copy)]
-pub enum Pair {
-    Refused(u64),
-    Both(u64, u64),
-}
-
-// What a query answers that says a number or none.
-#[derive(Clone, Copy)]
-pub enum Perhaps {
-    Refused(u64),
-    Absent,
-    Present(u64),
-}
-
-// What a query answers that says two numbers or none.
-#[derive(Clone, Copy)]
-pub enum PerhapsPair {
-    Refused(u64),
-    Neither,
-    Together(u64, u64),
-}
-
-// What `prefix_probe_plan` answers beside its hashes: owner, number of hashes, end height.
-#[derive(Clone, Copy)]
-pub enum Plan {
-    Refused(u64),
-    NoPlan,
-    Planned(u64, u64, u64),
-}
-
-// What `next_peer_request` answers beside its lists: places filled; where there is a request, the number of its entries and its next height.
-#[derive(Clone, Copy)]
-pub enum NextRequest {
-    Refused(u64),
-    NoRequest(u64),
-    Request(u64, u64, u64),
+pub struct NextRequest {
+    pub places: u64,
+    pub request: Option<Request>,
 }

@@ -1,6 +1,6 @@
 -- What a call that sweeps and plans promises, before its report is written: `LetsGo`, and its plan in the two lists that are lent for it. Generic
 -- over the call. Assumes nothing.
-use Rattle.std.specs.Prelude.{◌≡◌, true, ℕ, zero, suc, ◌*◌, ◌≤◌, length, drop}
+use Rattle.std.specs.Prelude.{◌≡◌, true, ℕ, zero, suc, ◌*◌, ◌≤◌, length, drop, Result, IsErrAnd}
 use Rattle.std.proofs.Math.Path.{refl, ap}
 use Rattle.std.proofs.Common.{sym, subst, ◌∙◌, arith}
 use mathlib.Core.List.{List, [], ◌∷◌, ◌++◌}
@@ -11,8 +11,11 @@ use Rattle.model.specs.Calls.{Ask}
 use Rattle.model.specs.Planning.{Proposal, ask_hashes, ask_heights, written}
 use Rattle.model.specs.Refusals.{Change, changes, Moment, at, checks, window_refusal}
 use Rattle.model.specs.Perform.{Deed, Answer, refused, says, change, moment_of, changed, plan_values, proposes, plan_after, perform}
+use Rattle.model.specs.Says.{number, says_by}
+use Rattle.model.specs.declared.Refusal.{Refusal}
 use Rattle.model.specs.declared.Release.{Release}
 use Rattle.laws.specs.Whole.{Holds}
+use Rattle.refusals.specs.Passed.{number_some, says_refused}
 use Rattle.report_words.specs.Report.{releases_of}
 use Rattle.letting_go.specs.Letting.{places, LetsGo, lets_refused, lets_at, lets_performs}
 use Rattle.planning.specs.Proposes.{Proposes}
@@ -66,6 +69,12 @@ module _ (size : ℕ) (x : Change) (ws : List ℕ) (room : ℕ) where
           i ∙ ap (λ (plan : List Ask). written (ask_hashes plan) hashes) p,
           j ∙ ap (λ (plan : List Ask). written (ask_heights plan) heights) p,
         )
+
+-- a refusal that `?` hands on: nothing is written
+module _ {A : Type 0} (r : Result A Refusal) (e : Refusal) (told : IsErrAnd r (λ f. f ≡ e)) where
+  pub plans_passed : (f : A → Answer) (size : ℕ) (x : Change) (ws : List ℕ) (room : ℕ) (gone hashes heights : List ℕ) → number e ≡ window_refusal (checks x) ws room
+      → PlansGo size x ws room (says_by f r) ws gone hashes hashes heights heights
+  plans_passed f size x ws room gone hashes heights h = rw (says_refused r e told f) (plans_refused size x ws room (number e) h gone hashes heights (number_some e))
 
 -- ---- the answer's numbers, by how many entries there are
 

@@ -1,12 +1,13 @@
 -- What the lists that are lent for a plan are refused by, as numbers. Assumes nothing.
 use Rattle.std.specs.Prelude.{◌≡◌, refl, Bool, true, List, [], ◌∷◌, length, eqb, leb}
+use Rattle.std.proofs.Common.{ap, ◌∙◌}
 use Prim.Native.Nat.{ℕ, suc, ◌*◌, ◌≤◌, ◌<◌}
 use borrow.Author.Tests.{eq-eqb, ne_eqb, le-leb, lt-leb, eqb-true, leb-true}
 use Rattle.model.specs.Numbers.{max_pending}
 use Rattle.model.specs.Lists.{every}
 use Rattle.model.specs.Window.{Window}
 use Rattle.model.specs.Planning.{Lent}
-use Rattle.model.specs.Refusals.{test, plan_refusal}
+use Rattle.model.specs.Refusals.{Moment, checking, test, plan_refusal, window_refusal}
 use Rattle.laws.specs.Every.{hold}
 use Rattle.laws.specs.Kept.{passed}
 
@@ -22,6 +23,11 @@ ListsRefused chain tip hash_words heights r = (w : Window) → r ≡ lists_refus
 pub lists_are : (l : Lent) (hash_words heights : ℕ) → lists_refusal (length l.chain) l.tip hash_words heights ≡ plan_refusal l hash_words heights
 unfolding lists_refusal plan_refusal
 lists_are l hash_words heights = refl
+
+-- what a call that plans is refused by, as the code finds it by the lengths, and as the definition has it
+pub refused_as : (l : Lent) (hash_words heights : ℕ) (m : Moment) (p : Bool) (ws : List ℕ) (room n : ℕ) → n ≡ window_refusal (checking true m p (lists_refusal (length l.chain) l.tip hash_words heights)) ws room
+    → n ≡ window_refusal (checking true m p (plan_refusal l hash_words heights)) ws room
+refused_as l hash_words heights m p ws room n e = e ∙ ap (λ (f : Window → ℕ). window_refusal (checking true m p f) ws room) (lists_are l hash_words heights)
 
 module _ (chain tip hash_words heights : ℕ) (w : Window) where
   pub lists_12 : (chain ≡ 4 * suc tip → ⊥) → 12 ≡ lists_refusal chain tip hash_words heights w

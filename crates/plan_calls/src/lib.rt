@@ -6,7 +6,7 @@
 ghost use Rattle.std.specs.Prelude.{◌≡◌, true, length};
 ghost use Rattle.model.specs.Refusals.{at, checking, seat_ok, window_refusal, plans, plans_retry};
 ghost use Rattle.model.specs.Perform.{says};
-ghost use Rattle.model.specs.Says.{next_request_says};
+ghost use Rattle.model.specs.Says.{next_request_says, next_request_answer, refusal_number};
 ghost use Rattle.model.specs.Window.{with_clock};
 ghost use Rattle.model.specs.Layout.{window_of};
 ghost use Rattle.laws.specs.Whole.{Whole, Holds};
@@ -15,7 +15,7 @@ ghost use Rattle.planning.specs.Proposes.{lent};
 ghost use Rattle.plan_calls.specs.Plans.{plan_numbers, PlansGo};
 ghost use Rattle.plan_calls.specs.Refused.{ListsRefused, lists_refusal};
 
-use model::{NextRequest, limits, sizes};
+use model::{NextRequest, Refusal, Request, limits, sizes};
 use planning::Proposed;
 
 // the words of a plan's hashes, of as many as it may have
@@ -23,23 +23,23 @@ const PLAN_WORDS: usize = sizes::PLACES * sizes::HASH_WORDS;
 
 // ---- refusals
 
-// `lists_refusal`, by the lengths of the lists: 12, then 10, or 0 for none.
-fn lists_refused_by(chain: usize, tip: u32, hashes: usize, heights: usize) -> u64
-    ensures { ListsRefused chain tip hashes heights result }
+// `lists_refusal`, by the lengths of the lists: 12, then 10.
+fn lists_refused_by(chain: usize, tip: u32, hashes: usize, heights: usize) -> Result<(), Refusal>
+    ensures { ListsRefused chain tip hashes heights (refusal_number result) }
 {
     if chain as u64 != sizes::HASH_WORDS as u64 * (tip as u64 + 1) {
-        return 12;
+        return Err(Refusal::Chain);
     }
     if hashes < PLAN_WORDS {
-        return 10;
+        return Err(Refusal::ShortOutput);
     }
     if heights < sizes::PLACES {
-        return 10;
+        return Err(Refusal::ShortOutput);
     }
-    0
+    Ok(())
 }
 
-// What a call that plans is refused by: 1, 2, 3, 4, 6, 12, 10, or 0 for none. The lists are named by their lengths.
+// What a call that plans is refused by: 1, 2, 3, 4, 6, 12, 10. The lists are named by their lengths.
 fn refused_by(
     words: &[u64],
     room: usize,
@@ -49,44 +49,49 @@ fn refused_by(
     tip: u32,
     hashes: usize,
     heights: usize,
-) -> u64
-    ensures { result ≡ window_refusal (checking true (at clock) (seat_ok source) (lists_refusal chain tip hashes heights)) words.now room }
+) -> Result<(), Refusal>
+    ensures { refusal_number result ≡ window_refusal (checking true (at clock) (seat_ok source) (lists_refusal chain tip hashes heights)) words.now room }
 {
-    let k = admission::report_refused_by(words, room, clock, source <= limits::MAX_SEAT);
-    if k != 0 {
-        return k;
-    }
+    admission::report_refused_by(words, room, clock, source <= limits::MAX_SEAT)?;
     lists_refused_by(chain, tip, hashes, heights)
 }
 
 // ---- the answer
 
 fn answer_of(gone: usize, count: usize, next: u64) -> NextRequest
-    ensures { next_request_says result ≡ says gone (plan_numbers count next) }
+    ensures { next_request_answer result ≡ says gone (plan_numbers count next) }
 {
     if count == 0 {
-        return NextRequest::NoRequest(gone as u64);
+        return NextRequest {
+            places: gone as u64,
+            request: None,
+        };
     }
-    NextRequest::Request(gone as u64, count as u64, next)
+    NextRequest {
+        places: gone as u64,
+        request: Some(Request {
+            count: count as u64,
+            next_height: next,
+        }),
+    }
 }
 
 // The last clock is set last.
 fn planned_at(words: &mut [u64], p: Proposed, moment: u64) -> NextRequest
     requires { Whole words.old }
-    ensures { (next_request_says result ≡ says p.gone (plan_numbers p.count p.next)) × Holds (with_clock moment (window_of words.old)) words.new }
+    ensures { (next_request_answer result ≡ says p.gone (plan_numbers p.count p.next)) × Holds (with_clock moment (window_of words.old)) words.new }
 {
     state::set_clock(words, moment);
     answer_of(p.gone, p.count, p.next)
 }
 
-// How many places of the report an answer counts.
-pub fn places_of_next(r: NextRequest) -> usize
+// How many places of the report an answer counts. It is no `impl` of `letting_go::Counted`, since neither that trait nor the type is of this crate.
+pub fn places_of_next(r: Result<NextRequest, Refusal>) -> usize
     ensures { result ≡ places (next_request_says r) }
 {
     match r {
-        NextRequest::Refused(_) => 0,
-        NextRequest::NoRequest(n) => n as usize,
-        NextRequest::Request(n, _, _) => n as usize,
+        Err(_) => 0,
+        Ok(n) => n.places as usize,
     }
 }
 
@@ -111,14 +116,14 @@ pub fn next_peer_request_allowing_retry(
     byte_headroom: u64,
     count_headroom: u64,
     clock: u64,
-) -> NextRequest
+) -> Result<NextRequest, Refusal>
     requires { length gone.old ≡ 2304 }
     ensures { PlansGo (length gone.old)
         (plans_retry clock source (lent chain.now tip start best floor staged.now refused.now exhausted byte_headroom count_headroom) (length hashes.old) (length heights.old))
         words.old room (next_request_says result) words.new gone.new
         hashes.old hashes.new heights.old heights.new }
 {
-    let k = refused_by(
+    refused_by(
         words,
         room,
         clock,
@@ -127,10 +132,7 @@ pub fn next_peer_request_allowing_retry(
         tip,
         hashes.len(),
         heights.len(),
-    );
-    if k != 0 {
-        return NextRequest::Refused(k);
-    }
+    )?;
     let p = planning::next_peer_request_allowing_retry(
         words,
         gone,
@@ -149,7 +151,7 @@ pub fn next_peer_request_allowing_retry(
         count_headroom,
         clock,
     );
-    planned_at(words, p, clock)
+    Ok(planned_at(words, p, clock))
 }
 
 // `plans`
@@ -171,14 +173,14 @@ pub fn next_peer_request(
     byte_headroom: u64,
     count_headroom: u64,
     clock: u64,
-) -> NextRequest
+) -> Result<NextRequest, Refusal>
     requires { length gone.old ≡ 2304 }
     ensures { PlansGo (length gone.old)
         (plans clock source (lent chain.now tip start best floor staged.now refused.now exhausted byte_headroom count_headroom) (length hashes.old) (length heights.old))
         words.old room (next_request_says result) words.new gone.new
         hashes.old hashes.new heights.old heights.new }
 {
-    let k = refused_by(
+    refused_by(
         words,
         room,
         clock,
@@ -187,10 +189,7 @@ pub fn next_peer_request(
         tip,
         hashes.len(),
         heights.len(),
-    );
-    if k != 0 {
-        return NextRequest::Refused(k);
-    }
+    )?;
     let p = planning::next_peer_request(
         words,
         gone,
@@ -209,5 +208,5 @@ pub fn next_peer_request(
         count_headroom,
         clock,
     );
-    planned_at(words, p, clock)
+    Ok(planned_at(words, p, clock))
 }

@@ -1,5 +1,5 @@
 -- The ways in which a plan is made: none without a sweep, none after it, or one of three over the swept and rewound window. Assumes nothing.
-use Rattle.std.specs.Prelude.{◌≡◌, true, ◌&&◌, ◌||◌, ℕ, ◌≤◌, ◌<◌, eqb, leb, take, drop}
+use Rattle.std.specs.Prelude.{◌≡◌, true, ◌&&◌, ◌||◌, ℕ, ◌≤◌, ◌<◌, eqb, leb, take, drop, None}
 use Rattle.std.proofs.Math.Path.{refl}
 use Rattle.std.proofs.Common.{ap, inl, inr, leb-true, ltb-true}
 use mathlib.Core.List.{List, [], ◌∷◌, ◌++◌}
@@ -13,7 +13,6 @@ use Rattle.model.specs.Capacity.{Capacity, no_capacity, capacity, batch_limit, b
 use Rattle.model.specs.LettingGo.{expire_pending}
 use Rattle.model.specs.Calls.{Ask}
 use Rattle.model.specs.Planning.{Lent, Draft, Scan, Proposal, no_request, non_empty_request, held_back, noticed, swept_asks, expired_request_entries, is_first_open, maybe_rewind_request_frontier, reach, clean_stretch, is_clean, clean_contiguous_peer_request, open_in_reach, candidates, next_after, extend_request_by_reverse_scan, scan_of, request_from, request_by, request_after, next_peer_request_allowing_retry, next_peer_request}
-use Rattle.model.specs.declared.Height.TheVariants.{Unknown}
 use Rattle.laws.specs.Numbers.{both, and_left, and_right}
 use Rattle.plan_laws.specs.Lists.{picked}
 
@@ -50,7 +49,7 @@ module _ (source : ℕ) (l : Lent) (now : ℕ) (w : Window) where
   the_batch = batch_limit source l.count (expire_pending now w).window
 
   abbrev pub the_draft : Draft
-  the_draft = let t = expire_pending now w in expired_request_entries l t.window (swept_asks t.gone) the_batch (byte_capacity l.bytes t.window) Unknown
+  the_draft = let t = expire_pending now w in expired_request_entries l t.window (swept_asks t.gone) the_batch (byte_capacity l.bytes t.window) None
 
   abbrev pub the_step : Step
   the_step = after (expire_pending now w) (maybe_rewind_request_frontier l)

@@ -1,5 +1,5 @@
 -- What is swept and asked for again: which of the swept ones, how many, and where they come from. Assumes nothing.
-use Rattle.std.specs.Prelude.{◌≡◌, refl, true, false, ◌||◌, ℕ, zero, suc, ◌+◌, ◌-◌, ◌*◌, ◌≤◌, ◌<◌, eqb, leb, length}
+use Rattle.std.specs.Prelude.{◌≡◌, refl, true, false, ◌||◌, ℕ, zero, suc, ◌+◌, ◌-◌, ◌*◌, ◌≤◌, ◌<◌, eqb, leb, length, Option}
 use Rattle.std.proofs.Common.{◌∙◌, arith}
 use Rattle.std.proofs.Math.Logic.{inl, inr}
 use Rattle.std.proofs.Math.Bool.{not}
@@ -18,7 +18,6 @@ use Rattle.model.specs.Planning.{Lent, ask, is_pending, is_staged, is_refused, i
 use Rattle.model.specs.declared.Hash.{Hash}
 use Rattle.model.specs.declared.Entry.{Entry}
 use Rattle.model.specs.declared.Release.{Release}
-use Rattle.model.specs.declared.Height.{Height}
 use Rattle.laws.specs.Numbers.{both}
 use Rattle.laws.specs.Bag.{weigh, one}
 use Rattle.laws.specs.Entries.{on, by_entry, Rising, rising_one, picks_weigh, sift, Each}
@@ -47,7 +46,7 @@ pub record Drawn (l : Lent) (w : Window) (ks : List Ask) (room bytes : ℕ) (d :
   pub of : (P : Ask → Type 0) → Every P ks → Every P d.asks
 
 module _ (l : Lent) (w : Window) where
-  drawn_none : (ks : List Ask) (room bytes : ℕ) (low : Height) → Drawn l w ks room bytes (draft [] bytes low)
+  drawn_none : (ks : List Ask) (room bytes : ℕ) (low : Option ℕ) → Drawn l w ks room bytes (draft [] bytes low)
   unfolding count
   drawn_none ks room bytes low = record { good = tt; few = omega arith; spent = omega (arith, zero-mul w.mean); no_more = λ h. omega arith; of = λ P p. tt }
 
@@ -77,7 +76,7 @@ module _ (l : Lent) (w : Window) where
     of = λ P p. (p.0, k.of P p.1);
   }
 
-  pub expired_drawn : (ks : List Ask) (room bytes : ℕ) (low : Height) → Drawn l w ks room bytes (expired_request_entries l w ks room bytes low)
+  pub expired_drawn : (ks : List Ask) (room bytes : ℕ) (low : Option ℕ) → Drawn l w ks room bytes (expired_request_entries l w ks room bytes low)
   unfolding expired_request_entries
   expired_drawn [] room bytes low = drawn_none [] room bytes low
   expired_drawn (a ∷ ks) room bytes low = elim (both (eqb room 0 || ltb bytes w.mean)) [

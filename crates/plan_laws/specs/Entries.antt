@@ -1,5 +1,5 @@
 -- The entries of a plan: each may be asked for, none twice, no more than the batch, and where they come from. Assumes nothing.
-use Rattle.std.specs.Prelude.{◌≡◌, refl, true, false, ℕ, ◌+◌, ◌-◌, ◌*◌, ◌/◌, ◌≤◌, ◌<◌}
+use Rattle.std.specs.Prelude.{◌≡◌, refl, true, false, ℕ, ◌+◌, ◌-◌, ◌*◌, ◌/◌, ◌≤◌, ◌<◌, None}
 use Rattle.std.proofs.Common.{sym, ◌∙◌, length-append, length-take}
 use Rattle.std.proofs.Math.Path.{ap, subst}
 use Rattle.std.proofs.Math.Logic.{inl, inr}
@@ -22,7 +22,6 @@ use Rattle.model.specs.Calls.{Ask}
 use Rattle.model.specs.Planning.{Lent, Draft, Scan, Proposal, names, is_pending, is_staged, is_refused, is_open, swept_asks, contiguous_request_entries, reach, clean_stretch, is_clean, open_in_reach, candidates, scan_of}
 use Rattle.model.specs.declared.Hash.{Hash}
 use Rattle.model.specs.declared.Entry.{Entry}
-use Rattle.model.specs.declared.Height.TheVariants.{Unknown}
 use Rattle.laws.specs.Numbers.{both, lesser_le_first, lesser_le_second, second_le_greater}
 use Rattle.laws.specs.Every.{hold}
 use Rattle.laws.specs.Entries.{Rising}
@@ -178,7 +177,7 @@ module _ (source : ℕ) (l : Lent) (now : ℕ) (w : Window) where
   drawn : Drawn l (expire_pending now w).window (swept_asks (expire_pending now w).gone) (the_batch source l now w) (byte_capacity l.bytes (expire_pending now w).window) (the_draft source l now w)
   drawn =
       let t = expire_pending now w in
-      expired_drawn l t.window (swept_asks t.gone) (the_batch source l now w) (byte_capacity l.bytes t.window) Unknown
+      expired_drawn l t.window (swept_asks t.gone) (the_batch source l now w) (byte_capacity l.bytes t.window) None
 
   pub plan_good : {P : Proposal} → Plan source l now w P → Every (Good l P.window) P.asks
   unfolding scan_of

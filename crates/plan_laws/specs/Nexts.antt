@@ -1,12 +1,10 @@
 -- The next height of a plan: no lower than the frontier, no higher than a height can be. Assumes nothing.
-use Rattle.std.specs.Prelude.{◌≡◌, List, [], ◌∷◌, ℕ, ◌≤◌, ltb, leb, length, take}
+use Rattle.std.specs.Prelude.{◌≡◌, List, [], ◌∷◌, ℕ, ◌≤◌, ltb, leb, length, take, None, Some, Option}
 use Rattle.std.proofs.Common.{inl, inr, arith, leb-true}
 use Rattle.model.specs.Numbers.{lesser, greater, next_height, max_height}
 use Rattle.model.specs.Window.{Step}
 use Rattle.model.specs.Calls.{Ask}
 use Rattle.model.specs.Planning.{Lent, Draft, Scan, held_back, noticed, past, next_after, reach, open_in_reach, candidates}
-use Rattle.model.specs.declared.Height.{Height}
-use Rattle.model.specs.declared.Height.TheVariants.{Unknown, Known}
 use Rattle.laws.specs.Numbers.{both, lesser_le_first, second_le_greater, greater_le, next_height_le}
 use Rattle.plan_laws.specs.Cases.{From, stretch, scanned, retried}
 
@@ -19,9 +17,9 @@ first_le_greater a b = elim (both (leb a b)) [
 
 -- ---- no lower than the frontier f
 
-held_ge : (low : Height) (f next : ℕ) → f ≤ next → f ≤ held_back low f next
-held_ge Unknown f next b = b
-held_ge (Known n) f next b = second_le_greater (lesser next n) f
+held_ge : (low : Option ℕ) (f next : ℕ) → f ≤ next → f ≤ held_back low f next
+held_ge None f next b = b
+held_ge (Some n) f next b = second_le_greater (lesser next n) f
 
 past_ge : (ks : List Ask) (n : ℕ) → n ≤ past ks n
 unfolding past
@@ -44,9 +42,9 @@ from_ge {t = t} {s = s} {d = d} e retried = held_ge d.low t.window.frontier s.ne
 
 -- ---- no higher than a height can be
 
-held_le : (low : Height) (f next : ℕ) → f ≤ max_height → next ≤ max_height → held_back low f next ≤ max_height
-held_le Unknown f next a b = b
-held_le (Known n) f next a b = greater_le (lesser next n) f max_height (omega (arith, lesser_le_first next n)) a
+held_le : (low : Option ℕ) (f next : ℕ) → f ≤ max_height → next ≤ max_height → held_back low f next ≤ max_height
+held_le None f next a b = b
+held_le (Some n) f next a b = greater_le (lesser next n) f max_height (omega (arith, lesser_le_first next n)) a
 
 past_low : (ks : List Ask) (n : ℕ) → n ≤ max_height → past ks n ≤ max_height
 unfolding past

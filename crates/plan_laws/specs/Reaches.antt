@@ -1,7 +1,7 @@
 -- Nothing that could be asked for is left out below the next height. The reach has as many heights as are wanted, pending, staged and taken: on a
 -- chain that names no hash twice at most so many of them are passed by, so that what is wanted is found, or a refused height holds the next height
 -- back, or the peer has no more. Assumes nothing.
-use Rattle.std.specs.Prelude.{◌≡◌, refl, Bool, false, cond, ◌||◌, ℕ, suc, ◌+◌, ◌-◌, ◌≤◌, ◌<◌, ltb, leb, get_or, take}
+use Rattle.std.specs.Prelude.{◌≡◌, refl, Bool, false, cond, ◌||◌, ℕ, suc, ◌+◌, ◌-◌, ◌≤◌, ◌<◌, ltb, leb, get_or, take, None, Some, Option}
 use Rattle.std.proofs.Common.{sym, true≢false, take_all}
 use Rattle.std.proofs.Math.Path.{ap, subst}
 use Rattle.std.proofs.Math.Logic.{inl, inr}
@@ -17,8 +17,6 @@ use Rattle.model.specs.Window.{Window}
 use Rattle.model.specs.Calls.{Ask}
 use Rattle.model.specs.Planning.{Lent, Scan, ask, names, is_pending, is_staged, is_refused, is_open, lower_of, noticed, held_back, contiguous_request_entries, reach, past, open_in_reach, candidates, next_after}
 use Rattle.model.specs.declared.Hash.{Hash}
-use Rattle.model.specs.declared.Height.{Height}
-use Rattle.model.specs.declared.Height.TheVariants.{Unknown, Known}
 use Rattle.laws.specs.Numbers.{both, lesser_le_first, lesser_le_second, lesser_first, le_lesser, greater_le}
 use Rattle.plan_laws.specs.Lists.{or_true, not_not, Every, every_map, every_take, every_select, any_none, member_select, select_all, count_select, count_or, count_alike, split_length}
 use Rattle.plan_laws.specs.Named.{NamesOnce, Once, hashes_of, pending_hashes, pending_named, count_named, first_named_select}
@@ -27,20 +25,20 @@ use Rattle.plan_laws.specs.Chain.{Stands, Higher, contiguous_stands, contiguous_
 -- ---- what the lowest refused height holds back
 
 -- a height is noted that is at most n
-abbrev AtMost : ℕ → Height → Type 0
-AtMost n Unknown = ⊥
-AtMost n (Known m) = m ≤ n
+abbrev AtMost : ℕ → Option ℕ → Type 0
+AtMost n None = ⊥
+AtMost n (Some m) = m ≤ n
 
-lower_new : (n m : ℕ) (low : Height) → m ≤ n → AtMost n (lower_of low m)
-lower_new n m Unknown b = b
-lower_new n m (Known k) b = omega (arith, lesser_le_second k m)
+lower_new : (n m : ℕ) (low : Option ℕ) → m ≤ n → AtMost n (lower_of low m)
+lower_new n m None b = b
+lower_new n m (Some k) b = omega (arith, lesser_le_second k m)
 
-lower_old : (n m : ℕ) (low : Height) → AtMost n low → AtMost n (lower_of low m)
-lower_old n m Unknown b = absurd b
-lower_old n m (Known k) b = omega (arith, lesser_le_first k m)
+lower_old : (n m : ℕ) (low : Option ℕ) → AtMost n low → AtMost n (lower_of low m)
+lower_old n m None b = absurd b
+lower_old n m (Some k) b = omega (arith, lesser_le_first k m)
 
 module _ (l : Lent) (n : ℕ) where
-  noticed_keeps : (ks : List Ask) (low : Height) → AtMost n low → AtMost n (noticed l ks low)
+  noticed_keeps : (ks : List Ask) (low : Option ℕ) → AtMost n low → AtMost n (noticed l ks low)
   unfolding noticed
   noticed_keeps [] low b = b
   noticed_keeps (a ∷ ks) low b = elim (both (is_refused l a)) [
@@ -49,7 +47,7 @@ module _ (l : Lent) (n : ℕ) where
   ]
 
   -- a refused one at a height up to n is noted
-  noticed_some : (ks : List Ask) (low : Height) (a : Ask) → Memᴰ a ks → is_refused l a ≡ true → a.height ≤ n → AtMost n (noticed l ks low)
+  noticed_some : (ks : List Ask) (low : Option ℕ) (a : Ask) → Memᴰ a ks → is_refused l a ≡ true → a.height ≤ n → AtMost n (noticed l ks low)
   unfolding noticed
   noticed_some [] low a m r b = elim m [ ]
   noticed_some (x ∷ ks) low a (mathlib.Core.List.Memᴰ.head e) r b =
@@ -58,7 +56,7 @@ module _ (l : Lent) (n : ℕ) where
       rw r' (noticed_keeps ks (lower_of low x.height) (lower_new n x.height low b'))
   noticed_some (x ∷ ks) low a (mathlib.Core.List.Memᴰ.tail m) r b = noticed_some ks (cond (is_refused l x) (lower_of low x.height) low) a m r b
 
-  noticed_any : (ks : List Ask) (low : Height) → Every (λ a. a.height ≤ n) ks → any (is_refused l) ks ≡ true → AtMost n (noticed l ks low)
+  noticed_any : (ks : List Ask) (low : Option ℕ) → Every (λ a. a.height ≤ n) ks → any (is_refused l) ks ≡ true → AtMost n (noticed l ks low)
   unfolding noticed any
   noticed_any [] low b r = absurd (true≢false (sym r))
   noticed_any (a ∷ ks) low b r = elim (or_true (is_refused l a) (any (is_refused l) ks) r) [
@@ -66,13 +64,13 @@ module _ (l : Lent) (n : ℕ) where
     | inr q ↦ noticed_any ks (cond (is_refused l a) (lower_of low a.height) low) b.1 q
   ]
 
-held_stops : (low : Height) (f next n : ℕ) → AtMost n low → f ≤ n → held_back low f next ≤ n
-held_stops Unknown f next n a b = absurd a
-held_stops (Known m) f next n a b = greater_le (lesser next m) f n (omega (arith, lesser_le_second next m)) b
+held_stops : (low : Option ℕ) (f next n : ℕ) → AtMost n low → f ≤ n → held_back low f next ≤ n
+held_stops None f next n a b = absurd a
+held_stops (Some m) f next n a b = greater_le (lesser next m) f n (omega (arith, lesser_le_second next m)) b
 
-pub held_below : (low : Height) (f next n : ℕ) → f ≤ n → next ≤ n → held_back low f next ≤ n
-held_below Unknown f next n b c = c
-held_below (Known m) f next n b c = greater_le (lesser next m) f n (omega (arith, lesser_le_first next m)) b
+pub held_below : (low : Option ℕ) (f next n : ℕ) → f ≤ n → next ≤ n → held_back low f next ≤ n
+held_below None f next n b c = c
+held_below (Some m) f next n b c = greater_le (lesser next m) f n (omega (arith, lesser_le_first next m)) b
 
 pub next_height_suc : (h : ℕ) → next_height h ≤ suc h
 unfolding next_height
@@ -152,7 +150,7 @@ module _ (l : Lent) (w : Window) (s : Scan) (taken : List Ask) (once : NamesOnce
   abbrev kept : Ask → Bool
   kept a = not (is_refused l a)
 
-  module _ (low : Height) (n : ℕ) (below_n : s.next ≤ n) (from_n : w.frontier ≤ n) (on_chain : n < length chain) where
+  module _ (low : Option ℕ) (n : ℕ) (below_n : s.next ≤ n) (from_n : w.frontier ≤ n) (on_chain : n < length chain) where
     abbrev next : ℕ
     next = held_back (noticed l found low) w.frontier (next_after s (candidates l w s taken))
 

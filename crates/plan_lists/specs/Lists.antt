@@ -1,5 +1,5 @@
 -- A plan in its two lent lists: one ask more, and a height that may be missing as a number. Assumes nothing.
-use Rattle.std.specs.Prelude.{◌≡◌, refl, List, [], ◌∷◌, ◌++◌, ℕ, zero, suc, ◌+◌, ◌*◌, ◌-◌, ◌≤◌, ◌<◌, length, take, drop, set}
+use Rattle.std.specs.Prelude.{◌≡◌, refl, List, [], ◌∷◌, ◌++◌, ℕ, zero, suc, ◌+◌, ◌*◌, ◌-◌, ◌≤◌, ◌<◌, length, take, drop, set, None, Some, Option}
 use Rattle.std.proofs.Common.{sym, ap, ◌∙◌, append_assoc, arith, length-append, take_at, length-take-le, drop-drop}
 use Rattle.std.proofs.Math.Seq.{drop-append-add}
 use Rattle.std.proofs.lemmas.List.{set_split}
@@ -8,8 +8,6 @@ use Rattle.model.specs.Hash.{hash_words}
 use Rattle.model.specs.Calls.{Ask}
 use Rattle.model.specs.Planning.{ask_hashes, ask_heights, written}
 use Rattle.model.specs.declared.Hash.{Hash}
-use Rattle.model.specs.declared.Height.{Height}
-use Rattle.model.specs.declared.Height.TheVariants.{Unknown, Known}
 use Rattle.listed.specs.Index.{Indexed}
 use Rattle.listed.specs.Laws.{alike_taken, indexed_alike}
 
@@ -94,6 +92,6 @@ heights_put asks a lent list n k e =
 
 -- ---- a height that may be missing, as a number: 0 for none
 
-abbrev pub height_of : ℕ → Height
-height_of zero = Unknown
-height_of (suc n) = Known n
+abbrev pub height_of : ℕ → Option ℕ
+height_of zero = None
+height_of (suc n) = Some n

@@ -1,5 +1,5 @@
 -- The plan in its two lent lists, and one turn of the scan on them. Assumes nothing.
-use Rattle.std.specs.Prelude.{◌≡◌, refl, Bool, cond, ◌||◌, List, [], ◌∷◌, ◌++◌, ℕ, zero, suc, ◌+◌, ◌*◌, ◌-◌, ◌≤◌, ◌<◌, length, take, drop, set, eqb}
+use Rattle.std.specs.Prelude.{◌≡◌, refl, Bool, cond, ◌||◌, List, [], ◌∷◌, ◌++◌, ℕ, zero, suc, ◌+◌, ◌*◌, ◌-◌, ◌≤◌, ◌<◌, length, take, drop, set, eqb, None, Some, Option}
 use Rattle.std.proofs.Common.{sym, ap, subst, ◌∙◌, append_assoc, arith, length-append, take_at, drop-drop, length-take-le, eq-eqb, ne_eqb}
 use Rattle.std.proofs.lemmas.List.{length-map, set_split}
 use Rattle.std.proofs.Math.Seq.{drop-append-add}
@@ -10,8 +10,6 @@ use Rattle.model.specs.Calls.{Ask}
 use Rattle.model.specs.Planning.{names, ask_hashes, ask_heights, written}
 use Rattle.model.specs.declared.Hash.{Hash}
 use Rattle.model.specs.declared.Entry.{Entry}
-use Rattle.model.specs.declared.Height.{Height}
-use Rattle.model.specs.declared.Height.TheVariants.{Unknown, Known}
 use Rattle.listed.specs.Index.{Indexed}
 use Rattle.listed.specs.Laws.{alike_taken, indexed_alike}
 use Rattle.plan_look.specs.declared.Look.{Look}
@@ -87,17 +85,17 @@ plan_named asks hs₀ hs n e k =
 -- ---- a turn, by what the scan does at a height
 
 -- a height that may be missing, as a number: 0 for none
-abbrev pub height_word : Height → ℕ
-height_word Unknown = 0
-height_word (Known n) = suc n
+abbrev pub height_word : Option ℕ → ℕ
+height_word None = 0
+height_word (Some n) = suc n
 
-abbrev pub height_of : ℕ → Height
-height_of zero = Unknown
-height_of (suc n) = Known n
+abbrev pub height_of : ℕ → Option ℕ
+height_of zero = None
+height_of (suc n) = Some n
 
-pub height_back : (h : Height) → height_of (height_word h) ≡ h
-height_back Unknown = refl
-height_back (Known n) = refl
+pub height_back : (h : Option ℕ) → height_of (height_word h) ≡ h
+height_back None = refl
+height_back (Some n) = refl
 
 abbrev pub count_after : Look → ℕ → ℕ
 count_after PassBy n = n
@@ -130,9 +128,9 @@ first_noted k first height e z = sym ((λ i. first_after (e i) first height) ∙
 pub first_stays : (k : Look) (first height : ℕ) → k ≡ NoteRefused → (first ≡ 0 → ⊥) → first ≡ first_after k first height
 first_stays k first height e z = sym ((λ i. first_after (e i) first height) ∙ ap (λ (b : Bool). cond b (height + 1) first) (ne_eqb first 0 z))
 
-pub height_some : (n : ℕ) → (n ≡ 0 → ⊥) → Known (n - 1) ≡ height_of n
+pub height_some : (n : ℕ) → (n ≡ 0 → ⊥) → Some (n - 1) ≡ height_of n
 height_some zero z = absurd (z refl)
-height_some (suc n) z = let e : suc n - 1 ≡ n = omega arith in ap (λ (m : ℕ). Known m) e
+height_some (suc n) z = let e : suc n - 1 ≡ n = omega arith in ap (λ (m : ℕ). Some m) e
 
 -- the lists hold what the scan has come to
 pub record Drawn (s : Scanned) (hs₀ ts₀ : List ℕ) (full n low at : ℕ) (hs ts : List ℕ) : Type 0 where
@@ -143,9 +141,9 @@ pub record Drawn (s : Scanned) (hs₀ ts₀ : List ℕ) (full n low at : ℕ) (h
   pub hashes : hs ≡ written (ask_hashes s.asks) hs₀
   pub heights : ts ≡ written (ask_heights s.asks) ts₀
 
-first_step : (first height : ℕ) (h : Height) → first ≡ height_word h → cond (eqb first 0) (height + 1) first ≡ height_word (first_of h height)
-first_step first height Unknown e = (λ i. cond (eqb (e i) 0) (height + 1) (e i)) ∙ omega arith
-first_step first height (Known m) e = (λ i. cond (eqb (e i) 0) (height + 1) (e i)) ∙ ap (λ (b : Bool). cond b (height + 1) (suc m)) (eqb-suc-zero m)
+first_step : (first height : ℕ) (h : Option ℕ) → first ≡ height_word h → cond (eqb first 0) (height + 1) first ≡ height_word (first_of h height)
+first_step first height None e = (λ i. cond (eqb (e i) 0) (height + 1) (e i)) ∙ omega arith
+first_step first height (Some m) e = (λ i. cond (eqb (e i) 0) (height + 1) (e i)) ∙ ap (λ (b : Bool). cond b (height + 1) (suc m)) (eqb-suc-zero m)
 
 module _ (s : Scanned) (hs₀ ts₀ : List ℕ) (full n first next : ℕ) (hs ts : List ℕ) (d : Drawn s hs₀ ts₀ full n first next hs ts) (a : Ask) where
   -- of a height at which it did k

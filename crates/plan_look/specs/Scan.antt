@@ -1,6 +1,6 @@
 -- The scan as the code makes it: it looks at one height after the other, takes what is open, and stops when it has all that is wanted.
 -- Definitions, and the laws of a turn. Assumes nothing.
-use Rattle.std.specs.Prelude.{◌≡◌, Bool, true, false, ◌||◌, ℕ, ◌-◌, eqb}
+use Rattle.std.specs.Prelude.{◌≡◌, Bool, true, false, ◌||◌, ℕ, ◌-◌, eqb, None, Some, Option}
 use Rattle.std.proofs.Math.Path.{refl, ap}
 use Rattle.std.proofs.Common.{◌∙◌, eq-eqb}
 use mathlib.Core.List.{List, [], ◌∷◌, ◌++◌, map}
@@ -12,19 +12,17 @@ use Rattle.model.specs.Calls.{Ask}
 use Rattle.model.specs.Planning.{names}
 use Rattle.model.specs.declared.Hash.{Hash}
 use Rattle.model.specs.declared.Entry.{Entry}
-use Rattle.model.specs.declared.Height.{Height}
-use Rattle.model.specs.declared.Height.TheVariants.{Unknown, Known}
 use Rattle.plan_look.specs.declared.Look.{Look}
 use Rattle.plan_look.specs.declared.Look.TheVariants.{PassBy, NoteRefused, Take}
 
 -- what it has come to: the plan, the first refused height that it met, the next height, and how many more are wanted
 pub record Scanned : Type 0 where
   pub asks : List Ask
-  pub first : Height
+  pub first : Option ℕ
   pub next : ℕ
   pub left : ℕ
 
-abbrev pub scanned : List Ask → Height → ℕ → ℕ → Scanned
+abbrev pub scanned : List Ask → Option ℕ → ℕ → ℕ → Scanned
 scanned asks first next left = record { asks = asks; first = first; next = next; left = left }
 
 abbrev pub plan_hashes : List Ask → List Hash
@@ -40,9 +38,9 @@ look_of false true = NoteRefused
 look_of false false = Take
 
 -- heights rise, so the first one is the lowest
-abbrev pub first_of : Height → ℕ → Height
-first_of Unknown n = Known n
-first_of (Known m) n = Known m
+abbrev pub first_of : Option ℕ → ℕ → Option ℕ
+first_of None n = Some n
+first_of (Some m) n = Some m
 
 -- what it does at a height: nothing more once it has all
 abbrev pub look : List Entry → List ℕ → List ℕ → Ask → Scanned → Look

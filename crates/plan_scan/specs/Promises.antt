@@ -1,13 +1,11 @@
 -- What the code asks, and what it gives. Assumes nothing.
-use Rattle.std.specs.Prelude.{◌≡◌, refl, List, ℕ, suc, ◌+◌, ◌*◌, ◌-◌, ◌/◌, ◌≤◌, length}
+use Rattle.std.specs.Prelude.{◌≡◌, refl, List, ℕ, suc, ◌+◌, ◌*◌, ◌-◌, ◌/◌, ◌≤◌, length, None, Option}
 use Rattle.model.specs.Numbers.{lesser, greater, max_height}
 use Rattle.model.specs.Window.{Window, Step}
 use Rattle.model.specs.Layout.{window_of}
 use Rattle.model.specs.Calls.{Ask}
 use Rattle.model.specs.Planning.{Lent, Scan, Draft, Proposal, contiguous_request_entries, request_from, scan_of, ask_hashes, ask_heights, written}
 use Rattle.model.specs.declared.Entry.{Entry}
-use Rattle.model.specs.declared.Height.{Height}
-use Rattle.model.specs.declared.Height.TheVariants.{Unknown}
 use Rattle.listed.specs.Index.{Indexed}
 use Rattle.plan_scan.specs.declared.RequestScan.{RequestScan}
 use Rattle.plan_scan.specs.declared.Scanning.{Scanning}
@@ -48,7 +46,7 @@ pub record Scannable (chain hs ts index : List ℕ) (last count full : ℕ) : Ty
 abbrev pub Scans : List Entry → List ℕ → List ℕ → List ℕ → List ℕ → List ℕ → ℕ → ℕ → ℕ → ℕ → ℕ → List ℕ → List ℕ → Scanning → Type 0
 Scans es chain staged refused hs ts from last count full next hs' ts' r =
     (asks : List Ask) (hs₀ ts₀ : List ℕ) → count ≡ length asks → hs ≡ written (ask_hashes asks) hs₀ → ts ≡ written (ask_heights asks) ts₀
-    → Drawn (scan_over es staged refused (contiguous_request_entries from last chain) (scanned asks Unknown next (full - count))) hs₀ ts₀ full r.count r.first r.next hs' ts'
+    → Drawn (scan_over es staged refused (contiguous_request_entries from last chain) (scanned asks None next (full - count))) hs₀ ts₀ full r.count r.first r.next hs' ts'
 
 -- ---- the request
 
@@ -64,7 +62,7 @@ pub record Plannable (ws chain hs ts index : List ℕ) (s : RequestScan) (count 
   pub heights : 256 ≤ length ts
 
 -- l lends these lists, t leaves this window, d is the plan so far, and the two lists hold it
-pub record Given (chain staged refused : List ℕ) (w : Window) (hs ts : List ℕ) (n : ℕ) (lowest : Height) (l : Lent) (t : Step) (d : Draft) (hs₀ ts₀ : List ℕ) : Type 0 where
+pub record Given (chain staged refused : List ℕ) (w : Window) (hs ts : List ℕ) (n : ℕ) (lowest : Option ℕ) (l : Lent) (t : Step) (d : Draft) (hs₀ ts₀ : List ℕ) : Type 0 where
   pub chain_is : l.chain ≡ chain
   pub staged_is : l.staged ≡ staged
   pub refused_is : l.refused ≡ refused
@@ -81,6 +79,6 @@ pub record Planned (p : Proposal) (hs₀ ts₀ hs ts : List ℕ) (r : Proposed) 
   pub hashes : hs ≡ written (ask_hashes p.asks) hs₀
   pub heights : ts ≡ written (ask_heights p.asks) ts₀
 
-abbrev pub Proposes : List ℕ → List ℕ → List ℕ → Window → List ℕ → List ℕ → RequestScan → ℕ → Height → List ℕ → List ℕ → Proposed → Type 0
+abbrev pub Proposes : List ℕ → List ℕ → List ℕ → Window → List ℕ → List ℕ → RequestScan → ℕ → Option ℕ → List ℕ → List ℕ → Proposed → Type 0
 Proposes chain staged refused w hs ts s count low hs' ts' r =
     (l : Lent) (t : Step) (d : Draft) (hs₀ ts₀ : List ℕ) → Given chain staged refused w hs ts count low l t d hs₀ ts₀ → Planned (request_from l t (scan_says s) d) hs₀ ts₀ hs' ts' r

@@ -1,5 +1,5 @@
 -- `request_from` by what the code answers. Assumes nothing.
-use Rattle.std.specs.Prelude.{◌≡◌, refl, Bool, true, false, cond, not, ◌&&◌, List, [], ◌∷◌, ℕ, suc, ◌+◌, ◌*◌, ◌-◌, ◌/◌, ◌≤◌, ◌<◌, length, eqb, ltb, leb}
+use Rattle.std.specs.Prelude.{◌≡◌, refl, Bool, true, false, cond, not, ◌&&◌, List, [], ◌∷◌, ℕ, suc, ◌+◌, ◌*◌, ◌-◌, ◌/◌, ◌≤◌, ◌<◌, length, eqb, ltb, leb, None, Some, Option}
 use Rattle.std.proofs.Common.{sym, ap, subst, ◌∙◌, inl, inr, arith, eq-eqb, ne_eqb, eqb-true, leb-true, ltb-true}
 use Rattle.std.proofs.Math.Dec.{eqb-suc-zero}
 use Rattle.std.proofs.lemmas.Bool.{eqb-false, not-false}
@@ -9,8 +9,6 @@ use Rattle.model.specs.Window.{Window, Step}
 use Rattle.model.specs.Layout.{window_of}
 use Rattle.model.specs.Calls.{Ask}
 use Rattle.model.specs.Planning.{Lent, Scan, Draft, Proposal, held_back, non_empty_request, contiguous_request_entries, reach, request_from, ask_hashes, ask_heights, written}
-use Rattle.model.specs.declared.Height.{Height}
-use Rattle.model.specs.declared.Height.TheVariants.{Unknown, Known}
 use Rattle.laws.specs.Numbers.{both, and_left, and_right, lesser_le_first, lesser_le_second, second_le_greater}
 use Rattle.listed.specs.Index.{Indexed}
 use Rattle.listed.specs.Search.{length_hashes}
@@ -50,7 +48,7 @@ answers_some n next z = (refl, sym (ap (λ (b : Bool). cond b 0 next) (ne_eqb n 
 
 -- ---- nothing to scan
 
-pub proposes_over : (chain staged refused : List ℕ) (w : Window) (hs ts : List ℕ) (s : RequestScan) (count : ℕ) (low : Height) (next : ℕ) (r : Proposed)
+pub proposes_over : (chain staged refused : List ℕ) (w : Window) (hs ts : List ℕ) (s : RequestScan) (count : ℕ) (low : Option ℕ) (next : ℕ) (r : Proposed)
     → s.next ≡ w.frontier → (leb s.height s.tip && ltb 0 s.limit) ≡ false → next ≡ held_back low s.next s.next → Answers count next r
     → Proposes chain staged refused w hs ts s count low hs ts r
 proposes_over chain staged refused w hs ts s count low next r f b e a = λ l t d hs₀ ts₀ g.
@@ -79,9 +77,9 @@ scannable ws chain hs ts index s count last end p e =
       heights = p.heights;
     }
 
-unknown_is : (h : Height) → eqb (height_word h) 0 ≡ is_unknown h
-unknown_is Unknown = refl
-unknown_is (Known n) = eqb-suc-zero n
+unknown_is : (h : Option ℕ) → eqb (height_word h) 0 ≡ is_unknown h
+unknown_is None = refl
+unknown_is (Some n) = eqb-suc-zero n
 
 full_is : (n left full : ℕ) → n + left ≡ full → eqb n full ≡ eqb left 0
 full_is n left full e = elim (both (eqb left 0)) [
@@ -90,7 +88,7 @@ full_is n left full e = elim (both (eqb left 0)) [
 ]
 
 -- the code's next height is the definition's
-next_is : (s : Scan) (last : ℕ) (low : Height) (x : Scanned) (taken pending staged full n first next : ℕ)
+next_is : (s : Scan) (last : ℕ) (low : Option ℕ) (x : Scanned) (taken pending staged full n first next : ℕ)
     → n + x.left ≡ full → first ≡ height_word x.first → next ≡ x.next
     → cond (eqb taken 0 && (eqb pending 0 && (eqb staged 0 && eqb first 0))) (greater s.next (next_height last))
     (held_back (height_of first) s.next (held_back low s.next (cond (eqb n full) next (greater next (next_height s.tip)))))
@@ -100,7 +98,7 @@ next_is s last low x taken pending staged full n first next room p q =
     (held_back ((ap height_of p ∙ height_back x.first) i) s.next (held_back low s.next (cond (full_is n x.left full room i) (q i) (greater (q i) (next_height s.tip))))))
     ∙ ap (cond (met_none taken pending staged x.first) (greater s.next (next_height last))) (held_twice low x.first s.next (ended s x))
 
-module _ (chain staged refused : List ℕ) (w : Window) (hs ts hs' ts' : List ℕ) (s : RequestScan) (count : ℕ) (low : Height) (pending held last full : ℕ) (x : Scanning)
+module _ (chain staged refused : List ℕ) (w : Window) (hs ts hs' ts' : List ℕ) (s : RequestScan) (count : ℕ) (low : Option ℕ) (pending held last full : ℕ) (x : Scanning)
     (frontier : s.next ≡ w.frontier) (above : s.next ≤ s.height) (some : s.height ≤ s.tip) (wants : 0 < s.limit)
     (pending_is : pending ≡ length w.queue.pending) (held_is : held ≡ length staged / 4)
     (last_is : last ≡ lesser (s.height + (s.limit + (pending + (held + count)) - 1)) s.tip) (full_by : full ≡ count + s.limit)
@@ -123,7 +121,7 @@ module _ (chain staged refused : List ℕ) (w : Window) (hs ts hs' ts' : List �
     drawn =
         let left : full - count ≡ s.limit = omega (arith, full_by) in
         subst (λ (z : Scanned). Drawn z hs₀ ts₀ full x.count x.first x.next hs' ts')
-        (λ i. scan_over (sym g.window i).queue.pending (sym g.staged_is i) (sym g.refused_is i) (contiguous_request_entries s.height (last_by i) (sym g.chain_is i)) (scanned d.asks Unknown s.next (left i)))
+        (λ i. scan_over (sym g.window i).queue.pending (sym g.staged_is i) (sym g.refused_is i) (contiguous_request_entries s.height (last_by i) (sym g.chain_is i)) (scanned d.asks None s.next (left i)))
         (scans d.asks hs₀ ts₀ g.count g.hashes g.heights)
 
     requested : request_from l t (scan_says s) d ≡ non_empty_request t end.asks (next_from (is_met_none l t (scan_says s) d (ap (λ (v : Window). v.frontier) g.window ∙ sym frontier) above wants) (scan_says s) (last_height l t (scan_says s) d) d.low end)

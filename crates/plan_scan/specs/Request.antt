@@ -1,5 +1,5 @@
 -- `request_from` by what the scan comes to: its entries on every list, and its next height, held back or, on a clean stretch, not. Assumes nothing.
-use Rattle.std.specs.Prelude.{◌≡◌, Bool, true, false, ◌&&◌, ◌||◌, ℕ, suc, ◌+◌, ◌-◌, ◌≤◌, ◌<◌, take, drop, eqb, ltb, leb}
+use Rattle.std.specs.Prelude.{◌≡◌, Bool, true, false, ◌&&◌, ◌||◌, ℕ, suc, ◌+◌, ◌-◌, ◌≤◌, ◌<◌, take, drop, eqb, ltb, leb, None, Some, Option}
 use Rattle.std.proofs.Math.Path.{refl, sym, ap}
 use Rattle.std.proofs.Common.{subst, ◌∙◌, length-take, take_all}
 use Rattle.std.proofs.Math.Logic.{inl, inr}
@@ -19,8 +19,6 @@ use Rattle.model.specs.Races.{is_empty}
 use Rattle.model.specs.Calls.{Ask}
 use Rattle.model.specs.Planning.{Lent, Scan, Draft, Proposal, names, is_pending, is_staged, is_refused, is_open, heights_from, contiguous_request_entries, first_named, noticed, held_back, non_empty_request, reach, clean_stretch, is_clean, clean_contiguous_peer_request, open_in_reach, candidates, past, next_after, extend_request_by_reverse_scan, request_from}
 use Rattle.model.specs.declared.Hash.{Hash}
-use Rattle.model.specs.declared.Height.{Height}
-use Rattle.model.specs.declared.Height.TheVariants.{Unknown, Known}
 use Rattle.laws.specs.Numbers.{both}
 use Rattle.plan_look.specs.Scan.{Scanned, scanned, plan_hashes, scan_over}
 use Rattle.plan_scan.specs.Found.{kept, kept_none, kept_one, Takes, takes}
@@ -28,20 +26,20 @@ use Rattle.plan_scan.specs.Notes.{lesser_min, greater_max, lower_by, noticed_ref
 
 -- ---- the end of a scan
 
-abbrev pub is_unknown : Height → Bool
-is_unknown Unknown = true
-is_unknown (Known n) = false
+abbrev pub is_unknown : Option ℕ → Bool
+is_unknown None = true
+is_unknown (Some n) = false
 
 -- past all that the peer has, where less was found than wanted
 abbrev pub ended : Scan → Scanned → ℕ
 ended s r = cond (eqb r.left 0) r.next (greater r.next (next_height s.tip))
 
 -- the next height, on a stretch that is clean and on one that is not
-abbrev pub next_from : Bool → Scan → ℕ → Height → Scanned → ℕ
+abbrev pub next_from : Bool → Scan → ℕ → Option ℕ → Scanned → ℕ
 next_from clean s last low r = cond clean (greater s.next (next_height last)) (held_back (lower_by low r.first) s.next (ended s r))
 
 -- nothing is taken, pending or staged, and no refused one was met
-abbrev pub met_none : ℕ → ℕ → ℕ → Height → Bool
+abbrev pub met_none : ℕ → ℕ → ℕ → Option ℕ → Bool
 met_none taken pending staged first = eqb taken 0 && (eqb pending 0 && (eqb staged 0 && is_unknown first))
 
 past_le : (asks : List Ask) (n : ℕ) → n ≤ past asks n
@@ -60,11 +58,11 @@ ended_full : (s : Scan) (r : Scanned) → r.left ≡ 0 → ended s r ≡ r.next
 ended_full s r z = ap (λ (b : Bool). cond b r.next (greater r.next (next_height s.tip))) (eq-eqb r.left 0 z)
 
 -- what lies beyond all that was wanted does not hold back
-held_alike : (low : Height) {met lowest : Height} {next left : ℕ} (frontier at : ℕ) → Notes next left met lowest → (left ≡ 0 → at ≡ next) → frontier ≤ next
+held_alike : (low : Option ℕ) {met lowest : Option ℕ} {next left : ℕ} (frontier at : ℕ) → Notes next left met lowest → (left ≡ 0 → at ≡ next) → frontier ≤ next
     → held_back (lower_by low lowest) frontier at ≡ held_back (lower_by low met) frontier at
 held_alike low frontier at alike e b = refl
-held_alike Unknown frontier at (beyond {m = m} z k) e b = simp (lesser_min, greater_max) (omega (arith, e z))
-held_alike (Known p) frontier at (beyond {m = m} z k) e b = simp (lesser_min, greater_max) (omega (arith, e z))
+held_alike None frontier at (beyond {m = m} z k) e b = simp (lesser_min, greater_max) (omega (arith, e z))
+held_alike (Some p) frontier at (beyond {m = m} z k) e b = simp (lesser_min, greater_max) (omega (arith, e z))
 
 -- ---- the scan that a request makes
 
@@ -80,7 +78,7 @@ module _ (l : Lent) (t : Step) (s : Scan) (d : Draft) where
   last_height = reach wide s
 
   abbrev pub scan_start : Scanned
-  scan_start = scanned d.asks Unknown s.next s.limit
+  scan_start = scanned d.asks None s.next s.limit
 
   abbrev pub scan_end : Scanned
   scan_end = scan_over w.queue.pending l.staged l.refused (contiguous_request_entries s.height last_height l.chain) scan_start
@@ -90,7 +88,7 @@ module _ (l : Lent) (t : Step) (s : Scan) (d : Draft) where
   ends = takes l w (contiguous_request_entries s.height last_height l.chain) scan_start (plan_hashes d.asks) (λ h n. refl)
 
   module _ (f : w.frontier ≡ s.next) (b : s.next ≤ s.height) where
-    ends_notes : Notes scan_end.next scan_end.left scan_end.first (noticed l (open_in_reach l w s d.asks) Unknown)
+    ends_notes : Notes scan_end.next scan_end.left scan_end.first (noticed l (open_in_reach l w s d.asks) None)
     unfolding open_in_reach contiguous_request_entries
     ends_notes =
         notes l w (take (suc last_height - s.height) (drop s.height (hashes_in l.chain))) s.height scan_start (plan_hashes d.asks) refl b (λ h. refl)
@@ -101,7 +99,7 @@ module _ (l : Lent) (t : Step) (s : Scan) (d : Draft) where
         let cs = candidates l w s d.asks in
         let at : next_after s cs ≡ ended s scan_end = ended_is s scan_end cs ends.next ends.left in
         let held : held_back (noticed l (open_in_reach l w s d.asks) d.low) s.next (ended s scan_end) ≡ held_back (lower_by d.low scan_end.first) s.next (ended s scan_end) =
-        ap (λ (h : Height). held_back h s.next (ended s scan_end)) (noticed_from l (open_in_reach l w s d.asks) d.low)
+        ap (λ (h : Option ℕ). held_back h s.next (ended s scan_end)) (noticed_from l (open_in_reach l w s d.asks) d.low)
         ∙ held_alike d.low s.next (ended s scan_end) ends_notes (ended_full s scan_end) (omega (arith, ends.next, past_le (take s.limit cs) s.next)) in
         (λ i. non_empty_request t (sym ends.asks i) (held_back (noticed l (open_in_reach l w s d.asks) d.low) (f i) (at i))) ∙ ap (non_empty_request t scan_end.asks) held
 
@@ -166,18 +164,18 @@ module _ (l : Lent) where
     | inr r ↦ kept_one l a asks r ∙ ap (λ (x : List Ask). a ∷ x) (kept_all asks (sym (ap (λ (b : Bool). b || any (is_refused l) asks) r) ∙ e))
   ]
 
-  known_lower : (n : ℕ) (h : Height) → is_unknown (lower_by (Known n) h) ≡ false
-  known_lower n Unknown = refl
-  known_lower n (Known m) = refl
+  known_lower : (n : ℕ) (h : Option ℕ) → is_unknown (lower_by (Some n) h) ≡ false
+  known_lower n None = refl
+  known_lower n (Some m) = refl
 
   -- nothing is noted exactly where nothing is refused
-  noted_any : (asks : List Ask) → is_unknown (noticed l asks Unknown) ≡ not (any (is_refused l) asks)
+  noted_any : (asks : List Ask) → is_unknown (noticed l asks None) ≡ not (any (is_refused l) asks)
   unfolding any noticed
   noted_any [] = refl
   noted_any (a ∷ asks) = elim (both (is_refused l a)) [
-    | inl r ↦ ap is_unknown (noticed_refused l a asks Unknown r ∙ noticed_from l asks (Known a.height)) ∙ known_lower a.height (noticed l asks Unknown)
+    | inl r ↦ ap is_unknown (noticed_refused l a asks None r ∙ noticed_from l asks (Some a.height)) ∙ known_lower a.height (noticed l asks None)
         ∙ sym (ap (λ (b : Bool). not (b || any (is_refused l) asks)) r)
-    | inr r ↦ ap is_unknown (noticed_not l a asks Unknown r) ∙ noted_any asks ∙ sym (ap (λ (b : Bool). not (b || any (is_refused l) asks)) r)
+    | inr r ↦ ap is_unknown (noticed_not l a asks None r) ∙ noted_any asks ∙ sym (ap (λ (b : Bool). not (b || any (is_refused l) asks)) r)
   ]
 
 module _ (l : Lent) (t : Step) (s : Scan) (d : Draft) (f : t.window.frontier ≡ s.next) (b : s.next ≤ s.height) (wants : 0 < s.limit) where
@@ -207,7 +205,7 @@ module _ (l : Lent) (t : Step) (s : Scan) (d : Draft) (f : t.window.frontier ≡
     candidates_are = ap (kept l) stretch_is
 
     -- a refused one in the stretch is met: there are no more heights than are wanted
-    met_by : {met lowest : Height} → Notes end.next end.left met lowest → noticed l (clean_stretch l s) Unknown ≡ lowest → is_unknown lowest ≡ is_unknown met
+    met_by : {met lowest : Option ℕ} → Notes end.next end.left met lowest → noticed l (clean_stretch l s) None ≡ lowest → is_unknown lowest ≡ is_unknown met
     met_by alike u = refl
     met_by (beyond z k) u =
         let some : any (is_refused l) (clean_stretch l s) ≡ true = not-false (any (is_refused l) (clean_stretch l s)) (sym (noted_any l (clean_stretch l s)) ∙ ap is_unknown u) in
@@ -216,7 +214,7 @@ module _ (l : Lent) (t : Step) (s : Scan) (d : Draft) (f : t.window.frontier ≡
     met_refused : not (any (is_refused l) (clean_stretch l s)) ≡ is_unknown end.first
     met_refused =
         sym (noted_any l (clean_stretch l s))
-        ∙ met_by (subst (λ (x : List Ask). Notes end.next end.left end.first (noticed l x Unknown)) stretch_is (ends_notes l t s d f b)) refl
+        ∙ met_by (subst (λ (x : List Ask). Notes end.next end.left end.first (noticed l x None)) stretch_is (ends_notes l t s d f b)) refl
 
     -- without one the scan takes the whole stretch
     takes_stretch : any (is_refused l) (clean_stretch l s) ≡ false → clean_stretch l s ≡ end.asks

@@ -1,5 +1,5 @@
 -- The scan's loop: what holds at its head, its turn and its two ends. Assumes nothing.
-use Rattle.std.specs.Prelude.{◌≡◌, refl, ℕ, zero, suc, ◌+◌, ◌*◌, ◌-◌, ◌≤◌, ◌<◌, length, take, get_or}
+use Rattle.std.specs.Prelude.{◌≡◌, refl, ℕ, zero, suc, ◌+◌, ◌*◌, ◌-◌, ◌≤◌, ◌<◌, length, take, get_or, None}
 use Rattle.std.proofs.Common.{sym, ◌∙◌, not-suc-le-zero, le_of_suc-le-suc, take-append-drop, take-suc, take_all, get_or-take}
 use Rattle.std.proofs.Math.Path.{ap, subst}
 use mathlib.Core.List.{List, [], ◌∷◌, ◌++◌}
@@ -11,7 +11,6 @@ use Rattle.model.specs.Calls.{Ask}
 use Rattle.model.specs.Planning.{ask, names, heights_from, contiguous_request_entries, ask_hashes, ask_heights, written}
 use Rattle.model.specs.declared.Hash.{Hash}
 use Rattle.model.specs.declared.Entry.{Entry}
-use Rattle.model.specs.declared.Height.TheVariants.{Unknown}
 use Rattle.requests.specs.Asks.{hash_in}
 use Rattle.listed.specs.Index.{Indexed}
 use Rattle.listed.specs.Search.{length_hashes, hashes_at}
@@ -61,7 +60,7 @@ module _ (chain : List ℕ) (from last : ℕ) (long : 4 * suc last ≤ length ch
 module _ (es : List Entry) (chain staged refused hs₁ ts₁ ix₁ : List ℕ) (from last count full frontier : ℕ) where
   -- what the scan has come to below a height, from the asks of the plan
   abbrev state_at : List Ask → ℕ → Scanned
-  state_at asks height = scan_over es staged refused (take (height - from) (contiguous_request_entries from last chain)) (scanned asks Unknown frontier (full - count))
+  state_at asks height = scan_over es staged refused (take (height - from) (contiguous_request_entries from last chain)) (scanned asks None frontier (full - count))
 
   pub record Turning (height n first next : ℕ) (hs ts ix : List ℕ) : Type 0 where
     pub start : from ≤ height
@@ -85,7 +84,7 @@ module _ (es : List Entry) (chain staged refused hs₁ ts₁ ix₁ : List ℕ) (
       index = refl;
       drawn = λ asks hs₀ ts₀ e p q.
           let z : from - from ≡ 0 = omega arith in
-          subst (λ (n : ℕ). Drawn (scan_over es staged refused (take n (contiguous_request_entries from last chain)) (scanned asks Unknown frontier (full - count))) hs₀ ts₀ full count 0 frontier hs₁ ts₁) (sym z)
+          subst (λ (n : ℕ). Drawn (scan_over es staged refused (take n (contiguous_request_entries from last chain)) (scanned asks None frontier (full - count))) hs₀ ts₀ full count 0 frontier hs₁ ts₁) (sym z)
           (record { count = e; room = omega (arith, s.more); first = refl; next = refl; hashes = p; heights = q });
     }
 
@@ -106,8 +105,8 @@ module _ (es : List Entry) (chain staged refused hs₁ ts₁ ix₁ : List ℕ) (
         drawn = λ asks hs₀ ts₀ c p q.
             let a = ask h height in
             let so : state_at asks (height + 1) ≡ looked (look es staged refused a (state_at asks height)) a (state_at asks height) =
-            ap (λ (x : List Ask). scan_over es staged refused x (scanned asks Unknown frontier (full - count))) (entries_more chain from last s.reaches height t.start b)
-            ∙ scan_append es staged refused (take (height - from) (contiguous_request_entries from last chain)) (ask (hash_in chain (4 * height)) height ∷ []) (scanned asks Unknown frontier (full - count))
+            ap (λ (x : List Ask). scan_over es staged refused x (scanned asks None frontier (full - count))) (entries_more chain from last s.reaches height t.start b)
+            ∙ scan_append es staged refused (take (height - from) (contiguous_request_entries from last chain)) (ask (hash_in chain (4 * height)) height ∷ []) (scanned asks None frontier (full - count))
             ∙ ap (λ (g : Hash). looked (look es staged refused (ask g height) (state_at asks height)) (ask g height) (state_at asks height)) (sym e) in
             subst (λ (x : Scanned). Drawn x hs₀ ts₀ full n' first' next' hs' ts') (sym so)
             (drawn_turn (state_at asks height) hs₀ ts₀ full n first next hs ts (t.drawn asks hs₀ ts₀ c p q) a es staged refused k w n' first' next' hs' ts' by en ef ex eh et);
@@ -124,14 +123,14 @@ module _ (es : List Entry) (chain staged refused hs₁ ts₁ ix₁ : List ℕ) (
           let d = t.drawn asks hs₀ ts₀ c p q in
           let l = contiguous_request_entries from last chain in
           let i = height - from in
-          let so : scan_over es staged refused l (scanned asks Unknown frontier (full - count)) ≡ state_at asks height =
-          ap (λ (x : List Ask). scan_over es staged refused x (scanned asks Unknown frontier (full - count))) (sym (take-append-drop i l))
-          ∙ scan_append es staged refused (take i l) (drop i l) (scanned asks Unknown frontier (full - count))
+          let so : scan_over es staged refused l (scanned asks None frontier (full - count)) ≡ state_at asks height =
+          ap (λ (x : List Ask). scan_over es staged refused x (scanned asks None frontier (full - count))) (sym (take-append-drop i l))
+          ∙ scan_append es staged refused (take i l) (drop i l) (scanned asks None frontier (full - count))
           ∙ scan_full es staged refused (drop i l) (state_at asks height) (omega (arith, d.room, e)) in
           subst (λ (x : Scanned). Drawn x hs₀ ts₀ full n first next hs ts) (sym so) d
 
       -- no height is left
       pub turning_end : last < height → Scans es chain staged refused hs₁ ts₁ from last count full frontier hs ts (record { count = n; first = first; next = next })
       turning_end b = λ asks hs₀ ts₀ c p q.
-          subst (λ (x : List Ask). Drawn (scan_over es staged refused x (scanned asks Unknown frontier (full - count))) hs₀ ts₀ full n first next hs ts)
+          subst (λ (x : List Ask). Drawn (scan_over es staged refused x (scanned asks None frontier (full - count))) hs₀ ts₀ full n first next hs ts)
           (entries_all chain from last s.reaches height b) (t.drawn asks hs₀ ts₀ c p q)

@@ -12,7 +12,6 @@ ghost use Rattle.plan_look.specs.Plan.{height_of};
 ghost use Rattle.plan_look.specs.Steps.{Asked};
 ghost use Rattle.plan_scan.specs.Promises.{Scannable, Scans, Plannable, Proposes, scan_says, scan_at};
 
-use model::Height;
 use model::sizes::HASH_WORDS;
 
 // The Rust's `RequestScan`.
@@ -90,11 +89,10 @@ fn scan_chain(
     requires { Asked words.now staged.now staged_index.now refused.now refused_index.now × Scannable chain.now hashes.old heights.old index.old last count full }
     ensures { Scans (window_of words.now).queue.pending chain.now staged.now refused.now hashes.old heights.old from last count full frontier hashes.new heights.new result }
 {
-    let mut height = from;
     let mut n = count;
     let mut first: u64 = 0;
     let mut next = frontier;
-    while height <= last {
+    for height in from..=last {
         if n == full {
             return Scanning {
                 count: n,
@@ -118,7 +116,6 @@ fn scan_chain(
         n = plan_look::count_after(k, n);
         first = plan_look::first_after(k, first, height);
         next = plan_look::next_past(k, next, height);
-        height += 1;
     }
     Scanning {
         count: n,
@@ -139,23 +136,20 @@ fn reach(height: u64, tip: u64, limit: u64, pending: usize, staged: usize, taken
 }
 
 // `held_back`
-fn held_back(low: Height, frontier: u64, next: u64) -> u64
+fn held_back(low: Option<u64>, frontier: u64, next: u64) -> u64
     ensures { result ≡ held_back low frontier next }
 {
     match low {
-        Height::Unknown => next,
-        Height::Known(n) => numbers::greater(numbers::lesser(next, n), frontier),
+        None => next,
+        Some(n) => numbers::greater(numbers::lesser(next, n), frontier),
     }
 }
 
 // `height_of`
-fn height_of(first: u64) -> Height
+fn height_of(first: u64) -> Option<u64>
     ensures { result ≡ height_of first }
 {
-    if first == 0 {
-        return Height::Unknown;
-    }
-    Height::Known(first - 1)
+    first.checked_sub(1)
 }
 
 // `ended`: past all that the peer has, where less was found than wanted.
@@ -170,7 +164,14 @@ fn ended(is_full: bool, next: u64, tip: u64) -> u64
 }
 
 // The next height after a scan: held back by what was refused among the swept ones, then by what the scan met.
-fn next_scanned(is_full: bool, tip: u64, low: Height, first: u64, frontier: u64, next: u64) -> u64
+fn next_scanned(
+    is_full: bool,
+    tip: u64,
+    low: Option<u64>,
+    first: u64,
+    frontier: u64,
+    next: u64,
+) -> u64
     requires { tip ≤ max_height }
     ensures { result ≡ held_back (height_of first) frontier (held_back low frontier (cond is_full next (greater next (next_height tip)))) }
 {
@@ -192,7 +193,7 @@ fn next_from(
     is_full: bool,
     last: u64,
     tip: u64,
-    low: Height,
+    low: Option<u64>,
     first: u64,
     frontier: u64,
     next: u64,
@@ -238,7 +239,7 @@ fn request_by_scan(
     index: &mut [u32],
     scan: RequestScan,
     count: usize,
-    low: Height,
+    low: Option<u64>,
 ) -> Proposed
     requires { Asked words.now staged.now staged_index.now refused.now refused_index.now × (Plannable words.now chain.now hashes.old heights.old index.old scan count × ((scan.height ≤ scan.tip) × (0 < scan.limit))) }
     ensures { Proposes chain.now staged.now refused.now (window_of words.now) hashes.old heights.old scan count low hashes.new heights.new result }
@@ -284,7 +285,7 @@ pub fn request_from(
     index: &mut [u32],
     scan: RequestScan,
     count: usize,
-    low: Height,
+    low: Option<u64>,
 ) -> Proposed
     requires { Asked words.now staged.now staged_index.now refused.now refused_index.now × Plannable words.now chain.now hashes.old heights.old index.old scan count }
     ensures { Proposes chain.now staged.now refused.now (window_of words.now) hashes.old heights.old scan count low hashes.new heights.new result }

@@ -1,5 +1,5 @@
 -- The plan over swept words, step by step: what each asks of those before it, and that they come to the proposal. Assumes nothing.
-use Rattle.std.specs.Prelude.{◌≡◌, Bool, true, false, cond, ◌&&◌, List, ℕ, zero, suc, ◌-◌, ◌/◌, ◌≤◌, ◌<◌, length, leb}
+use Rattle.std.specs.Prelude.{◌≡◌, Bool, true, false, cond, ◌&&◌, List, ℕ, zero, suc, ◌-◌, ◌/◌, ◌≤◌, ◌<◌, length, leb, None, Some, Option}
 use Rattle.std.proofs.Math.Path.{refl}
 use Rattle.std.proofs.Common.{sym, ap, subst, ◌∙◌, arith}
 use Rattle.std.proofs.Math.Dec.{ltb}
@@ -9,8 +9,6 @@ use Rattle.model.specs.Layout.{window_of}
 use Rattle.model.specs.Races.{is_empty}
 use Rattle.model.specs.Calls.{Ask}
 use Rattle.model.specs.Planning.{Lent, Scan, Draft, Proposal, no_request, non_empty_request, held_back, maybe_rewind_request_frontier, is_clean, clean_contiguous_peer_request, extend_request_by_reverse_scan, expired_request_entries, swept_asks, scan_of, request_from}
-use Rattle.model.specs.declared.Height.{Height}
-use Rattle.model.specs.declared.Height.TheVariants.{Unknown, Known}
 use Rattle.laws.specs.Sound.{Sound}
 use Rattle.laws.specs.Whole.{Holds, sound_rises}
 use Rattle.report_words.specs.Report.{releases_of}
@@ -28,12 +26,12 @@ use Rattle.planning.specs.Swept.{step, Swept, Requests}
 
 -- ---- a height that may be missing, of its number
 
-pub height_none : (n : ℕ) → n ≡ 0 → Unknown ≡ height_of n
+pub height_none : (n : ℕ) → n ≡ 0 → None ≡ height_of n
 height_none n e = sym (ap height_of e)
 
-pub height_some : (n : ℕ) → (n ≡ 0 → ⊥) → Known (n - 1) ≡ height_of n
+pub height_some : (n : ℕ) → (n ≡ 0 → ⊥) → Some (n - 1) ≡ height_of n
 height_some zero h = absurd (h refl)
-height_some (suc n) h = let e : suc n - 1 ≡ n = omega arith in ap (λ (m : ℕ). Known m) e
+height_some (suc n) h = let e : suc n - 1 ≡ n = omega arith in ap (λ (m : ℕ). Some m) e
 
 -- ---- a request leaves the step that it is made in
 
@@ -101,7 +99,7 @@ module _ {n : ℕ} {ws gone hs ts chain : List ℕ} {tip : ℕ} (g : Swept n ws 
           plannable ws₁ chain hs₁ ts₁ index s tip start best floor batch count left e (omega (arith, g.reaches)) top few (omega (arith, d.few))
           d.index (omega (arith, g.hashes)) (omega (arith, g.heights))
 
-      module _ (low : Height) (k : low ≡ height_of lowest) (hs₂ ts₂ : List ℕ) (r : scanned.Proposed)
+      module _ (low : Option ℕ) (k : low ≡ height_of lowest) (hs₂ ts₂ : List ℕ) (r : scanned.Proposed)
           (p : scan.Proposes chain staged refused (window_of ws₁) hs₁ ts₁ s count low hs₂ ts₂ r) where
         pub requests : Requests n ws gone chain tip start best floor staged refused batch bytes (record { gone = n; count = r.count; next = r.next }) ws₁ hs hs₂ ts ts₂
         requests exhausted byte_headroom count_headroom =
@@ -109,7 +107,7 @@ module _ {n : ℕ} {ws gone hs ts chain : List ℕ} {tip : ℕ} (g : Swept n ws 
             let w₀ = window_of ws in
             let h = at exhausted byte_headroom count_headroom in
             let t = after (step w₀ (releases_of n gone)) (maybe_rewind_request_frontier l) in
-            let q = expired_request_entries l w₀ (swept_asks (releases_of n gone)) batch bytes Unknown in
+            let q = expired_request_entries l w₀ (swept_asks (releases_of n gone)) batch bytes None in
             let b = subst (λ (x : Draft). Drafted x batch hs ts hs₁ ts₁ index count left lowest) (retries_are l ws n gone batch bytes) d in
             let scans : scan_says s ≡ scan_of l t.window batch q = e ∙ (λ i. scan_at tip start best floor batch (b.count i) (b.bytes i) (h.is i)) ∙ sym (scan_of_is l t.window batch q) in
             let m : Planned (request_from l t (scan_of l t.window batch q) q) hs ts hs₂ ts₂ r =

@@ -10,8 +10,7 @@ ghost use Rattle.plan_lists.specs.Lists.{height_of};
 ghost use Rattle.planning.specs.Proposes.{lent, Ready, Proposes};
 ghost use Rattle.planning.specs.Swept.{Swept, Requests, RequestsAfter};
 
-use capacity::Batch;
-use model::{Height, sizes};
+use model::sizes;
 
 // How many were swept; how many entries the request has, 0 for no request; its next height.
 #[derive(Clone, Copy)]
@@ -59,13 +58,10 @@ fn index_lists(
 // ---- a request by a capacity
 
 // `height_of`: a height that may be missing, of its number.
-fn height_of(low: u64) -> Height
+fn height_of(low: u64) -> Option<u64>
     ensures { result ≡ height_of low }
 {
-    if low == 0 {
-        return Height::Unknown;
-    }
-    Height::Known(low - 1)
+    low.checked_sub(1)
 }
 
 // `request_by` a capacity, over the indexes that are lent: the swept ones, the frontier, then the scan.
@@ -288,12 +284,12 @@ fn request_after(
 {
     let b = queries::compute_request_capacity(words, source, byte_headroom, count_headroom);
     match b {
-        Batch::Nothing => Proposed {
+        None => Proposed {
             gone: n,
             count: 0,
             next: 0,
         },
-        Batch::Upto(batch, bytes) => request_by(
+        Some((batch, bytes)) => request_by(
             words, gone, n, hashes, heights, chain, tip, start, best, floor, staged, refused,
             batch, bytes,
         ),

@@ -7,12 +7,12 @@ ghost use Rattle.model.specs.Places.{head_probe_hashes};
 ghost use Rattle.laws.specs.Tables.{with_words};
 ghost use Rattle.plans.specs.Rows.{rows_words, words_from};
 
-use model::{Plan, head, sizes};
+use model::{Plan, Refusal, head, sizes};
 
 // What `prefix_probe_plan` answers: the plan's numbers, or the refusal, and beside them the words of eight hashes, 0 after the planned ones.
 #[derive(Clone, Copy)]
 pub struct PlanAnswer {
-    pub plan: Plan,
+    pub plan: Result<Option<Plan>, Refusal>,
     pub hashes: [u64; sizes::PLANNED_WORDS],
 }
 

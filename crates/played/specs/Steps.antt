@@ -1,13 +1,10 @@
 -- Which call a step of the demo's script is, what is said of its answer, and what it writes in the book. Definitions only.
-use Rattle.std.specs.Prelude.{◌≡◌, Bool, true, false, cond, ◌&&◌, List, [], ◌∷◌, ℕ, eqb, leb, length, get_or, set, replicate, take}
+use Rattle.std.specs.Prelude.{◌≡◌, Bool, true, false, cond, ◌&&◌, List, [], ◌∷◌, ℕ, eqb, leb, length, get_or, set, replicate, take, Some}
 use Rattle.model.specs.Numbers.{lesser}
 use Rattle.model.specs.Queries.{reads, ewma_block_bytes}
 use Rattle.model.specs.Refusals.{Change, Call, opens, changes, queries, requests, fetches, receives, rejects, expires, requeues, releases, retires, retains, confirms_probe, confirms_hedge, observes, sets_fanout, clears_preferred, plans}
 use Rattle.model.specs.Planning.{Lent, ask_hashes, ask_heights, written}
 use Rattle.model.specs.Perform.{Answer, refused, says, perform}
-use Rattle.model.specs.declared.Height.TheVariants.{Known}
-use Rattle.model.specs.declared.Source.TheVariants.{From}
-use Rattle.model.specs.declared.Sought.TheVariants.{Exactly}
 use Rattle.observation.specs.Look.{look}
 use Rattle.letting_go.specs.Letting.{places}
 use Rattle.planning.specs.Proposes.{lent}
@@ -129,16 +126,16 @@ abbrev pub fetching : Step → Play
 fetching s = record { call = changes (fetches s.clock s.peer s.hash s.first false room room); said = fetch_said; blocks = fetch_blocks }
 
 abbrev pub receiving : Step → Play
-receiving s = record { call = changes (receives s.clock s.hash s.other (From s.peer)); said = received_said; blocks = no_blocks }
+receiving s = record { call = changes (receives s.clock s.hash s.other (Some s.peer)); said = received_said; blocks = no_blocks }
 
 abbrev pub rejecting : Step → Play
-rejecting s = record { call = changes (rejects s.clock s.hash (From s.peer)); said = rejected_said; blocks = no_blocks }
+rejecting s = record { call = changes (rejects s.clock s.hash (Some s.peer)); said = rejected_said; blocks = no_blocks }
 
 -- 9, and what else there is: every seat is kept but the peer's
 abbrev pub calls_letting_go : Step → List (ℕ × Change)
 calls_letting_go s =
     (5, expires s.clock)
-    ∷ (6, requeues s.clock s.hash (Known s.first))
+    ∷ (6, requeues s.clock s.hash (Some s.first))
     ∷ (7, releases s.clock s.hash)
     ∷ (8, retires s.clock s.first)
     ∷ []
@@ -151,7 +148,7 @@ letting s = record { call = letting_go s s.call; said = let_go_said; blocks = no
 
 abbrev pub looking : Step → Play
 looking s = record {
-  call = changes (observes s.clock (look (Known s.first) (Exactly s.hash) false s.other (Known (height_after s.first 8))));
+  call = changes (observes s.clock (look (Some s.first) (Some s.hash) false s.other (Some (height_after s.first 8))));
   said = blocked_said;
   blocks = no_blocks;
 }

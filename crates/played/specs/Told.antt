@@ -1,33 +1,26 @@
 -- What the calls promise, said of the step of the script that makes them. Assumes nothing.
-use Rattle.std.specs.Prelude.{◌≡◌, refl, Bool, true, false, List, [], ℕ, zero, suc, eqb, length, get_or, replicate}
+use Rattle.std.specs.Prelude.{◌≡◌, refl, Bool, true, false, List, [], ℕ, zero, suc, eqb, length, get_or, replicate, Option, None, Some, Result, Ok, Err, ⊤}
 use Rattle.std.proofs.Common.{sym, subst, ◌∙◌}
 use Rattle.std.proofs.Math.Path.{ap}
 use Rattle.std.proofs.Math.Bool.{cond}
 use Rattle.model.specs.Numbers.{lesser}
 use Rattle.model.specs.Window.{Window}
+use Rattle.model.specs.Queries.{source_values}
 use Rattle.model.specs.Calls.{Ask}
 use Rattle.model.specs.Planning.{ask_hashes, ask_heights, written}
 use Rattle.model.specs.Refusals.{Change, Call, changes, refusal}
-use Rattle.model.specs.Perform.{Answer, requested, observed, changed, does, plan_by, plan_after, perform}
-use Rattle.model.specs.Says.{accepted_says, requested_says, fetch_says, let_go_says, received_says, rejected_says, blocked_says, next_request_says, number_says}
-use Rattle.model.specs.declared.Accepted.{Accepted}
-use Rattle.model.specs.declared.Accepted.TheVariants as accepted
-use Rattle.model.specs.declared.Requested.{Requested}
-use Rattle.model.specs.declared.Requested.TheVariants as request
+use Rattle.model.specs.Perform.{Answer, says, requested, observed, changed, does, plan_by, plan_after, perform}
+use Rattle.model.specs.Says.{accepted_says, requested_says, fetch_says, let_go_says, received_says, rejected_says, blocked_says, next_request_says, number_says, request_values}
 use Rattle.model.specs.declared.Fetch.{Fetch}
 use Rattle.model.specs.declared.Fetch.TheVariants as fetch
-use Rattle.model.specs.declared.LetGo.{LetGo}
-use Rattle.model.specs.declared.LetGo.TheVariants as went
 use Rattle.model.specs.declared.Received.{Received}
-use Rattle.model.specs.declared.Received.TheVariants as received
 use Rattle.model.specs.declared.Rejected.{Rejected}
 use Rattle.model.specs.declared.Rejected.TheVariants as rejected
 use Rattle.model.specs.declared.Blocked.{Blocked}
 use Rattle.model.specs.declared.Blocked.TheVariants as blocked
 use Rattle.model.specs.declared.NextRequest.{NextRequest}
-use Rattle.model.specs.declared.NextRequest.TheVariants as next_request
-use Rattle.model.specs.declared.Number.{Number}
-use Rattle.model.specs.declared.Number.TheVariants as number
+use Rattle.model.specs.declared.Request.{Request}
+use Rattle.model.specs.declared.Refusal.{Refusal}
 use Rattle.letting_go.specs.Letting.{places}
 use Rattle.report_words.specs.Report.{releases_of}
 use Rattle.lend.specs.Blank.{none_filled}
@@ -37,7 +30,7 @@ use Rattle.lines.specs.Words as words
 use Rattle.lines.specs.declared.Said.{Said}
 use Rattle.ledger.specs.Book.{value, added, tallied, opened, of_request, of_fetch, let_go}
 use Rattle.ledger.specs.declared.Book.{Book}
-use Rattle.script.specs.Kept.{planned}
+use Rattle.script.specs.Kept.{plan_of_request, planned}
 use Rattle.script.specs.declared.Step.{Step}
 use Rattle.script.specs.declared.Plan.{Plan}
 use Rattle.played.specs.declared.Outcome.{Outcome}
@@ -46,69 +39,77 @@ use Rattle.played.specs.Steps.{Play, Plays, Kept, Turns, TurnsIf, TurnsBy, done_
 
 -- ---- an answer of the code, by its values
 
-pub done_told : (r : Accepted) (gone : List ℕ) → words.accepted r ≡ done_said (accepted_says r) gone
-done_told (accepted.Refused n) gone = refl
-done_told accepted.Done gone = refl
+pub done_told : (r : Result ⊤ Refusal) (gone : List ℕ) → words.accepted r ≡ done_said (accepted_says r) gone
+done_told (Err r) gone = refl
+done_told (Ok u) gone = refl
 
-pub request_told : (r : Requested) (n : ℕ) (gone : List ℕ) → words.requested r n ≡ request_said n (requested_says r) gone
-request_told (request.Refused k) n gone = refl
-request_told request.Full n gone = refl
-request_told request.Room n gone = refl
+pub request_told : (r : Result Bool Refusal) (n : ℕ) (gone : List ℕ) → words.requested r n ≡ request_said n (requested_says r) gone
+request_told (Err r) n gone = refl
+request_told (Ok false) n gone = refl
+request_told (Ok true) n gone = refl
 
-pub request_opens : (r : Requested) (n : ℕ) → of_request r n ≡ request_blocks n (requested_says r)
-request_opens (request.Refused k) n = refl
-request_opens request.Full n = refl
-request_opens request.Room n = refl
+pub request_opens : (r : Result Bool Refusal) (n : ℕ) → of_request r n ≡ request_blocks n (requested_says r)
+request_opens (Err r) n = refl
+request_opens (Ok room) n = refl
 
-pub fetch_told : (r : Fetch) (gone : List ℕ) → words.fetched r ≡ fetch_said (fetch_says r) gone
-fetch_told (fetch.Refused n) gone = refl
-fetch_told fetch.Held gone = refl
-fetch_told fetch.Staged gone = refl
-fetch_told fetch.Asked gone = refl
-fetch_told fetch.NoCapacity gone = refl
+pub fetch_told : (r : Result Fetch Refusal) (gone : List ℕ) → words.fetched r ≡ fetch_said (fetch_says r) gone
+fetch_told (Err r) gone = refl
+fetch_told (Ok fetch.Held) gone = refl
+fetch_told (Ok fetch.Staged) gone = refl
+fetch_told (Ok fetch.Asked) gone = refl
+fetch_told (Ok fetch.NoCapacity) gone = refl
 
-pub fetch_opens : (r : Fetch) → of_fetch r ≡ fetch_blocks (fetch_says r)
-fetch_opens (fetch.Refused n) = refl
-fetch_opens fetch.Held = refl
-fetch_opens fetch.Staged = refl
-fetch_opens fetch.Asked = refl
-fetch_opens fetch.NoCapacity = refl
+pub fetch_opens : (r : Result Fetch Refusal) → of_fetch r ≡ fetch_blocks (fetch_says r)
+fetch_opens (Err r) = refl
+fetch_opens (Ok fetch.Held) = refl
+fetch_opens (Ok fetch.Staged) = refl
+fetch_opens (Ok fetch.Asked) = refl
+fetch_opens (Ok fetch.NoCapacity) = refl
 
-pub let_go_told : (r : LetGo) (gone : List ℕ) → words.let_go r (get_or gone 8 0) ≡ let_go_said (let_go_says r) gone
-let_go_told (went.Refused n) gone = refl
-let_go_told (went.Gone n) gone = refl
+pub let_go_told : (r : Result ℕ Refusal) (gone : List ℕ) → words.let_go r (get_or gone 8 0) ≡ let_go_said (let_go_says r) gone
+let_go_told (Err r) gone = refl
+let_go_told (Ok n) gone = refl
 
-pub received_told : (r : Received) (gone : List ℕ) → words.received r (get_or gone 17 0) ≡ received_said (received_says r) gone
-received_told (received.Refused n) gone = refl
-received_told (received.Unasked n) gone = refl
-received_told (received.Expected n height) gone = refl
+received_at : (height : Option ℕ) (n : ℕ) (gone : List ℕ) → words.received_by height n (get_or gone 17 0) ≡ received_said (says n (source_values height)) gone
+received_at None n gone = refl
+received_at (Some height) n gone = refl
 
-pub rejected_told : (r : Rejected) (gone : List ℕ) → words.rejected r ≡ rejected_said (rejected_says r) gone
-rejected_told (rejected.Refused n) gone = refl
-rejected_told (rejected.ReleasedPending n) gone = refl
-rejected_told rejected.DiscardedUnsolicited gone = refl
+pub received_told : (r : Result Received Refusal) (gone : List ℕ) → words.received r (get_or gone 17 0) ≡ received_said (received_says r) gone
+received_told (Err r) gone = refl
+received_told (Ok d) gone = received_at d.height d.places gone
 
-pub blocked_told : (r : Blocked) (gone : List ℕ) → words.blocked r ≡ blocked_said (blocked_says r) gone
-blocked_told (blocked.Refused n) gone = refl
-blocked_told blocked.NoDecision gone = refl
-blocked_told (blocked.BlameStaller owner) gone = refl
-blocked_told (blocked.BlamePendingTimeout owner) gone = refl
-blocked_told (blocked.EvictStaged height h suppressed) gone = refl
-blocked_told (blocked.HedgeColdFront owner h) gone = refl
+pub rejected_told : (r : Result Rejected Refusal) (gone : List ℕ) → words.rejected r ≡ rejected_said (rejected_says r) gone
+rejected_told (Err r) gone = refl
+rejected_told (Ok (rejected.ReleasedPending n)) gone = refl
+rejected_told (Ok rejected.DiscardedUnsolicited) gone = refl
 
-pub plan_told : (r : NextRequest) (gone : List ℕ) → words.planned r (get_or gone 8 0) ≡ plan_said (next_request_says r) gone
-plan_told (next_request.Refused n) gone = refl
-plan_told (next_request.NoRequest n) gone = refl
-plan_told (next_request.Request n count next) gone = refl
+pub blocked_told : (r : Result Blocked Refusal) (gone : List ℕ) → words.blocked r ≡ blocked_said (blocked_says r) gone
+blocked_told (Err r) gone = refl
+blocked_told (Ok blocked.NoDecision) gone = refl
+blocked_told (Ok (blocked.BlameStaller owner)) gone = refl
+blocked_told (Ok (blocked.BlamePendingTimeout owner)) gone = refl
+blocked_told (Ok (blocked.EvictStaged height h suppressed)) gone = refl
+blocked_told (Ok (blocked.HedgeColdFront owner h)) gone = refl
 
-pub plan_kept : (r : NextRequest) (heights : List ℕ) → planned r heights ≡ planned_by (next_request_says r) heights
-plan_kept (next_request.Refused n) heights = refl
-plan_kept (next_request.NoRequest n) heights = refl
-plan_kept (next_request.Request n count next) heights = refl
+plan_at : (p : Option Request) (n : ℕ) (gone : List ℕ) → words.planned_by p (get_or gone 8 0) ≡ plan_said (says n (request_values p)) gone
+plan_at None n gone = refl
+plan_at (Some p) n gone = refl
 
-pub number_told : (r : Number) → value r ≡ number_of (number_says r)
-number_told (number.Refused n) = refl
-number_told (number.Is x) = refl
+pub plan_told : (r : Result NextRequest Refusal) (gone : List ℕ) → words.planned r (get_or gone 8 0) ≡ plan_said (next_request_says r) gone
+plan_told (Err r) gone = refl
+plan_told (Ok n) gone = plan_at n.request n.places gone
+
+kept_at : (p : Option Request) (n : ℕ) (heights : List ℕ) → plan_of_request p heights ≡ planned_by (says n (request_values p)) heights
+kept_at None n heights = refl
+kept_at (Some p) n heights = refl
+
+pub plan_kept : (r : Result NextRequest Refusal) (heights : List ℕ) → planned r heights ≡ planned_by (next_request_says r) heights
+plan_kept (Err r) heights = refl
+plan_kept (Ok n) heights = kept_at n.request n.places heights
+
+pub number_told : (r : Result ℕ Refusal) → value r ≡ number_of (number_says r)
+number_told (Err r) = refl
+number_told (Ok x) = refl
 
 -- ---- the book after a call that opens, and after one that lets go
 

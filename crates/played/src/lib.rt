@@ -8,11 +8,10 @@ ghost use Rattle.model.specs.Says.{accepted_says, let_go_says};
 ghost use Rattle.lend.specs.Goes.{Goes};
 ghost use Rattle.played.specs.Steps.{asking, fetching, receiving, rejecting, letting_go, letting, looking, changing, doing, making, planning, planned_by, kept, Plays, Turns, TurnsBy};
 
-use heights::Height32;
 use ledger::Book;
-use lend::LetGoWords;
+use lend::Reported;
 use lines::Said;
-use model::{Accepted, Sought, Source, of_release, sizes};
+use model::{Refusal, of_release, sizes};
 use script::{Plan, Step};
 
 #[derive(Clone, Copy)]
@@ -74,7 +73,7 @@ fn receive(words: &mut [u64], b: Book, s: Step) -> Outcome
     ensures { Plays (receiving s) b words.old words.new result }
 {
     let h = s.hash;
-    let l = lend::mark_received_from(words, h, s.other, Source::From(s.peer), s.clock);
+    let l = lend::mark_received_from(words, h, s.other, Some(s.peer), s.clock);
     let r = l.answer;
     let gone = l.gone;
     Outcome {
@@ -88,7 +87,7 @@ fn reject(words: &mut [u64], b: Book, s: Step) -> Outcome
     ensures { Plays (rejecting s) b words.old words.new result }
 {
     let h = s.hash;
-    let l = lend::reject_delivery(words, h, Source::From(s.peer), s.clock);
+    let l = lend::reject_delivery(words, h, Some(s.peer), s.clock);
     let r = l.answer;
     let gone = l.gone;
     Outcome {
@@ -97,14 +96,14 @@ fn reject(words: &mut [u64], b: Book, s: Step) -> Outcome
     }
 }
 
-fn lets_go(words: &mut [u64], s: Step) -> LetGoWords
+fn lets_go(words: &mut [u64], s: Step) -> Reported<Result<u64, Refusal>>
     ensures { Goes (letting_go s s.call) words.old words.new (let_go_says result.answer) result.places result.gone }
 {
     let h = s.hash;
     let call = s.call;
     match call {
         5 => lend::expire_pending(words, s.clock),
-        6 => lend::requeue_for_retry(words, h, Height32::Known(s.first), s.clock),
+        6 => lend::requeue_for_retry(words, h, Some(s.first), s.clock),
         7 => lend::release_pending(words, h, s.clock),
         8 => lend::retire_before(words, s.first, s.clock),
         _ => {
@@ -134,11 +133,11 @@ fn look(words: &mut [u64], b: Book, s: Step) -> Outcome
     let highest = script::height_after(s.first, 8);
     let r = window::observe_blocked(
         words,
-        Height32::Known(s.first),
-        Sought::Exactly(h),
+        Some(s.first),
+        Some(h),
         false,
         s.other,
-        Height32::Known(highest),
+        Some(highest),
         s.clock,
     );
     Outcome {
@@ -148,7 +147,7 @@ fn look(words: &mut [u64], b: Book, s: Step) -> Outcome
 }
 
 // The calls that are done or refused. `other` is the owner of the blocks, or how many peers there are; 12 asks the peer for eight blocks of the owner's too.
-fn changes(words: &mut [u64], s: Step) -> Accepted
+fn changes(words: &mut [u64], s: Step) -> Result<(), Refusal>
     ensures { (accepted_says result ≡ (perform (changing s s.call) words.old []).answer)
         × (words.new ≡ (perform (changing s s.call) words.old []).words) }
 {

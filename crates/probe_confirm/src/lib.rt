@@ -16,7 +16,7 @@ ghost use Rattle.plans.specs.Rows.{row_hash, rows_words, rows_hashes};
 ghost use Rattle.probe_hashes.specs.Rows.{Rows};
 ghost use Rattle.probe_confirm.specs.Confirms.{words_in};
 
-use model::{Probe, Source};
+use model::PrefixProbe;
 
 // ---- the given hashes
 
@@ -34,11 +34,9 @@ fn given_hashes(given: &[u64], n: usize) -> [[u64; 4]; 8]
     ensures { rows_words 8 result ≡ planned_words (hashes_in given.now) }
 {
     let mut rows: [[u64; 4]; 8] = [[0; 4]; 8];
-    let mut i = 0;
-    while i < n {
+    for i in 0..n {
         let row = row_in(given, 4 * i);
         rows[i] = row;
-        i += 1;
     }
     rows
 }
@@ -54,14 +52,12 @@ fn same_row(a: [u64; 4], b: [u64; 4]) -> bool
 fn same_rows(a: [[u64; 4]; 8], b: [[u64; 4]; 8]) -> bool
     ensures { result ≡ same_hashes (rows_hashes 8 a) (rows_hashes 8 b) }
 {
-    let mut i = 0;
-    while i < 8 {
+    for i in 0..8 {
         let x = a[i];
         let y = b[i];
         if !same_row(x, y) {
             return false;
         }
-        i += 1;
     }
     true
 }
@@ -81,7 +77,7 @@ fn is_plan(rows: [[u64; 4]; 8], n: usize, given: &[u64]) -> bool
 // ---- the race begins
 
 // The probe with the hashes of n rows; its racers as they were.
-fn set_rows(words: &mut [u64], x: Probe, n: u64, rows: [[u64; 4]; 8])
+fn set_rows(words: &mut [u64], x: Option<PrefixProbe>, n: u64, rows: [[u64; 4]; 8])
     requires { Whole words.old × (probe_fits x × Rows n rows) }
     ensures { Holds (with_probe x (rows_hashes n rows) (window_of words.old).races.racers (window_of words.old)) words.new }
 {
@@ -94,11 +90,9 @@ fn enter_all(words: &mut [u64], alternates: &[u64])
     requires { Whole words.old × (all seat_ok alternates.now ≡ true) }
     ensures { Holds (with_probe (window_of words.old).races.probe (window_of words.old).races.planned (entered alternates.now (window_of words.old).races.racers) (window_of words.old)) words.new }
 {
-    let mut i = 0;
-    while i < alternates.len() {
-        let seat = alternates[i] as usize;
+    for alternate in alternates {
+        let seat = *alternate as usize;
         state_races::set_racer(words, seat, 1);
-        i += 1;
     }
 }
 
@@ -114,9 +108,13 @@ fn start_probe(
     requires { Whole words.old × (Rows n rows × ((owner ≤ max_seat) × ((clock ≤ max_clock) × (all seat_ok alternates.now ≡ true)))) }
     ensures { Holds (probe_started owner (rows_hashes n rows) alternates.now clock (window_of words.old)) words.new }
 {
-    let who = Source::From(owner);
+    let who = Some(owner);
     state::set_attempted(words, who);
-    let x = Probe::Probing(owner, 0, clock);
+    let x = Some(PrefixProbe {
+        owner,
+        accepted: 0,
+        started: clock,
+    });
     set_rows(words, x, n, rows);
     state_races::clear_racers(words);
     state_races::set_racer(words, owner as usize, 1);

@@ -1,5 +1,5 @@
 -- The planned hashes as rows of four words, and what they say of the plan. Assumes nothing.
-use Rattle.std.specs.Prelude.{◌≡◌, refl, cond, List, [], ◌∷◌, ℕ, zero, suc, ◌+◌, ◌-◌, ◌*◌, ◌≤◌, ◌<◌, length, get_or, set, replicate, eqb, leb}
+use Rattle.std.specs.Prelude.{◌≡◌, refl, cond, List, [], ◌∷◌, ℕ, zero, suc, ◌+◌, ◌-◌, ◌*◌, ◌≤◌, ◌<◌, length, get_or, set, replicate, eqb, leb, Ok}
 use Rattle.std.proofs.Math.Path.{sym, ap}
 use Rattle.std.proofs.Common.{◌∙◌, not-suc-le-zero, le_of_suc-le-suc, length-set, length-take, get_or-set_same, get_or-set_other, get_or-take, take_at, eqb-true}
 use Rattle.std.proofs.Math.Logic.{inl, inr}
@@ -140,7 +140,7 @@ first_words : (hs : List Hash) → take (4 * length hs) (planned_words hs) ≡ h
 unfolding planned_words pad
 first_words hs = take_at (hashes_words hs) (replicate (32 - length (hashes_words hs)) 0) (4 * length hs) (length_hashes hs)
 
-pub plan_said : (r : PlanAnswer) (p : Planned) → r.plan ≡ header p → r.hashes ≡ planned_words (hashes_of p)
+pub plan_said : (r : PlanAnswer) (p : Planned) → r.plan ≡ Ok (header p) → r.hashes ≡ planned_words (hashes_of p)
     → (plan_answer_says r ≡ says 0 (plan_values p)) × (r.hashes ≡ pad 32 0 (planned_part r))
 unfolding planned_words hashes_words
 plan_said r no_plan e h = rw (e, h) (refl, refl)

@@ -48,11 +48,9 @@ pub fn plan_hashes(words: &[u64], p: Planning) -> [[u64; 4]; 8]
     let places = p.places;
     let n = how_many(p.n);
     let mut rows: [[u64; 4]; 8] = [[0; 4]; 8];
-    let mut i = 0;
-    while i < n {
+    for i in 0..n {
         let row = row_at(words, places[i]);
         rows[i] = row;
-        i += 1;
     }
     rows
 }
@@ -66,7 +64,7 @@ pub fn prefix_probe_plan(words: &[u64]) -> PlanAnswer
     let p = probe_plan::make_plan(words);
     let rows = plan_hashes(words, p);
     PlanAnswer {
-        plan: probe_plan::header_of(p),
+        plan: Ok(probe_plan::header_of(p)),
         hashes: plans::planned_list(rows),
     }
 }

@@ -1,5 +1,5 @@
 -- What the code's plan says in the model's words, and the plan case by case. Assumes nothing.
-use Rattle.std.specs.Prelude.{◌≡◌, refl, Bool, true, false, cond, not, ◌||◌, List, [], ◌∷◌, ℕ, suc, ◌-◌, ◌≤◌, ◌<◌, length, get_or, take, eqb, leb}
+use Rattle.std.specs.Prelude.{◌≡◌, refl, Bool, true, false, cond, not, ◌||◌, List, [], ◌∷◌, ℕ, suc, ◌-◌, ◌≤◌, ◌<◌, length, get_or, take, eqb, leb, None, Some, Option}
 use Rattle.std.proofs.Common.{sym, ap, subst, ◌∙◌, inl, inr, arith, length-take}
 use borrow.Author.Tests.{lt-ltb, le-ltb}
 use Rattle.model.specs.Numbers.{max_height, max_clock, present}
@@ -10,11 +10,8 @@ use Rattle.model.specs.Window.{Window}
 use Rattle.model.specs.Races.{Planned, no_plan, planned, plan_limit, win_blocks, plan_from, is_missing, is_seat, is_probing, prefix_probe_plan, walk, by_height, probe_offered}
 use Rattle.model.specs.declared.Hash.{Hash}
 use Rattle.model.specs.declared.Entry.{Entry}
-use Rattle.model.specs.declared.Front.{Front}
-use Rattle.model.specs.declared.Front.TheVariants.{Nothing, At}
-use Rattle.model.specs.declared.Probe.{Probe}
+use Rattle.model.specs.declared.PrefixProbe.{PrefixProbe}
 use Rattle.model.specs.declared.Plan.{Plan}
-use Rattle.model.specs.declared.Plan.TheVariants.{NoPlan, Planned as PlanOf}
 use Rattle.laws.specs.Numbers.{both}
 use Rattle.laws.specs.Entries.{Each}
 use Rattle.laws.specs.Sound.{InRange}
@@ -25,14 +22,17 @@ use Rattle.probe_plan.specs.declared.Planning.{Planning}
 unfoldable pub planned_by : Planning → List Entry → Planned
 planned_by r l = cond (leb win_blocks r.n) (planned r.owner (hashes_at l (take r.n r.places)) (r.end - 1)) no_plan
 
+abbrev pub plan_of : ℕ → ℕ → ℕ → Option Plan
+plan_of owner n end = Some (record { owner = owner; count = n; end_height = end })
+
 -- a plan's owner, number of hashes, end height
-abbrev pub header : Planned → Plan
-header no_plan = NoPlan
-header (planned owner hashes end) = PlanOf owner (length hashes) end
+abbrev pub header : Planned → Option Plan
+header no_plan = None
+header (planned owner hashes end) = plan_of owner (length hashes) end
 
 -- the same of the code's plan
-abbrev pub header_by : Planning → Plan
-header_by r = cond (leb win_blocks r.n) (PlanOf r.owner r.n (r.end - 1)) NoPlan
+abbrev pub header_by : Planning → Option Plan
+header_by r = cond (leb win_blocks r.n) (plan_of r.owner r.n (r.end - 1)) None
 
 -- the plan of the window, with places that are there
 pub record Plans (r : Planning) (w : Window) : Type 0 where
@@ -61,20 +61,20 @@ from_walk limit first owner l r b o w =
     rw (w.hashes, n, o) (ap (λ (e : ℕ). cond (leb win_blocks r.n) (planned owner (hashes_at l (take r.n r.places)) (e - 1)) no_plan) w.end)
 
 -- the lowest entry is in its range
-abbrev FrontIn : Front → Type 0
-FrontIn Nothing = Unit {0}
-FrontIn (At x) = x.height ≤ max_height
+abbrev FrontIn : Option Entry → Type 0
+FrontIn None = Unit {0}
+FrontIn (Some x) = x.height ≤ max_height
 
-lower_in_range : (x : Entry) (f : Front) → x.height ≤ max_height → FrontIn f → FrontIn (lower x f)
-lower_in_range x Nothing h k = h
-lower_in_range x (At y) h k = elim (both (leb x.height y.height)) [ inl q ↦ rw q h | inr q ↦ rw q k ]
+lower_in_range : (x : Entry) (f : Option Entry) → x.height ≤ max_height → FrontIn f → FrontIn (lower x f)
+lower_in_range x None h k = h
+lower_in_range x (Some y) h k = elim (both (leb x.height y.height)) [ inl q ↦ rw q h | inr q ↦ rw q k ]
 
 in_range : (l : List Entry) → Each (InRange max_clock) l → FrontIn (lowest l)
 unfolding lowest
 in_range [] a = tt
 in_range (x ∷ l) a = lower_in_range x (lowest l) a.0.height (in_range l a.1)
 
-pub lowest_height : (l : List Entry) (f : Front) (e : Entry) → Each (InRange max_clock) l → f ≡ lowest l → f ≡ At e → e.height ≤ max_height
+pub lowest_height : (l : List Entry) (f : Option Entry) (e : Entry) → Each (InRange max_clock) l → f ≡ lowest l → f ≡ Some e → e.height ≤ max_height
 lowest_height l f e a q p = subst FrontIn (sym q ∙ p) (in_range l a)
 
 -- ---- the plan, case by case
@@ -90,12 +90,12 @@ module _ (w : Window) where
   unfolding prefix_probe_plan
   plan_busy q = rw q
 
-  module _ (free : busy ≡ false) (f : Front) (ef : f ≡ lowest w.queue.pending) where
-    pub plan_none : f ≡ Nothing → no_plan ≡ prefix_probe_plan w
+  module _ (free : busy ≡ false) (f : Option Entry) (ef : f ≡ lowest w.queue.pending) where
+    pub plan_none : f ≡ None → no_plan ≡ prefix_probe_plan w
     unfolding prefix_probe_plan
     plan_none q = rw (free, ← ef, q)
 
-    module _ (e : Entry) (q : f ≡ At e) where
+    module _ (e : Entry) (q : f ≡ Some e) where
       pub plan_passed : passed e.owner ≡ true → no_plan ≡ prefix_probe_plan w
       unfolding prefix_probe_plan
       plan_passed p = rw (free, ← ef, q, p)
@@ -112,7 +112,7 @@ module _ (w : Window) where
 
 -- ---- what is offered to a racer, case by case
 
-module _ (source : ℕ) (h : Hash) (w : Window) (p : Probe) (ep : p ≡ w.races.probe) where
+module _ (source : ℕ) (h : Hash) (w : Window) (p : Option PrefixProbe) (ep : p ≡ w.races.probe) where
   pub offered_none : is_probing p ≡ false → false ≡ probe_offered source h w
   unfolding probe_offered
   offered_none q = rw (← ep, q)
@@ -132,7 +132,7 @@ unfolding planned_by
 header_planned r w p =
     let n = count_planned w.queue.pending r.n r.places (omega (arith, p.few, p.room)) in
     elim (both (leb win_blocks r.n)) [
-      | inl q ↦ rw q (sym (ap header (sym p.is) ∙ rw q (ap (λ (k : ℕ). PlanOf r.owner k (r.end - 1)) n)))
+      | inl q ↦ rw q (sym (ap header (sym p.is) ∙ rw q (ap (λ (k : ℕ). plan_of r.owner k (r.end - 1)) n)))
       | inr q ↦ rw q (sym (ap header (sym p.is) ∙ rw q))
     ]
 

@@ -10,7 +10,7 @@ ghost use Rattle.laws.specs.Whole.{Whole};
 ghost use Rattle.laws.specs.Pending.{Ranged};
 ghost use Rattle.probe_plan.specs.Plans.{header_by, Plans, busy, passed};
 
-use model::{Front, Hash, Plan, Probe, Source, limits, sizes};
+use model::{Hash, Plan, PrefixProbe, limits, sizes};
 
 // A plan's owner and walk; without a plan n is 0.
 #[derive(Clone, Copy)]
@@ -22,33 +22,24 @@ pub struct Planning {
 }
 
 // `is_missing`
-fn is_missing(s: Source) -> bool
+fn is_missing(s: Option<u64>) -> bool
     ensures { result ≡ is_missing s }
 {
-    match s {
-        Source::Missing => true,
-        Source::From(_) => false,
-    }
+    s.is_none()
 }
 
 // `is_seat`
-fn is_seat(s: Source, seat: u64) -> bool
+fn is_seat(s: Option<u64>, seat: u64) -> bool
     ensures { result ≡ is_seat s seat }
 {
-    match s {
-        Source::Missing => false,
-        Source::From(p) => p == seat,
-    }
+    s.is_some_and(|p| p == seat)
 }
 
 // `is_probing`
-fn is_probing(p: Probe) -> bool
+fn is_probing(p: Option<PrefixProbe>) -> bool
     ensures { result ≡ is_probing p }
 {
-    match p {
-        Probe::NoProbe => false,
-        Probe::Probing(_, _, _) => true,
-    }
+    p.is_some()
 }
 
 // A peer is preferred, a probe runs, or the fan-out is engaged.
@@ -74,13 +65,11 @@ fn has_another(words: &[u64], owner: u64) -> bool
     ensures { result ≡ any (λ e. not (eqb e.owner owner)) (window_of words.now).queue.pending }
 {
     let n = state_queue::pending_count(words);
-    let mut i = 0;
-    while i < n {
+    for i in 0..n {
         let e = state_queue::entry_at(words, i);
         if e.owner != owner {
             return true;
         }
-        i += 1;
     }
     false
 }
@@ -128,7 +117,7 @@ pub fn make_plan(words: &[u64]) -> Planning
         return no_planning();
     }
     let lowest = state_queue::lowest(words);
-    let Front::At(front) = lowest else {
+    let Some(front) = lowest else {
         return no_planning();
     };
     if is_passed(words, front.owner) {
@@ -151,14 +140,18 @@ pub fn make_plan(words: &[u64]) -> Planning
 }
 
 // `header_by`: owner, number of hashes, end height.
-pub fn header_of(p: Planning) -> Plan
+pub fn header_of(p: Planning) -> Option<Plan>
     ensures { result ≡ header_by p }
 {
     if p.n < sizes::WIN_BLOCKS {
-        return Plan::NoPlan;
+        return None;
     }
     let end = numbers::minus(p.end, 1);
-    Plan::Planned(p.owner, p.n as u64, end)
+    Some(Plan {
+        owner: p.owner,
+        count: p.n as u64,
+        end_height: end,
+    })
 }
 
 // `probe_offered`

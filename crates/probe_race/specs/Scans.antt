@@ -1,5 +1,5 @@
 -- The scans of the race: the place of a hash, the winner, the seats that keep what they have. Assumes nothing.
-use Rattle.std.specs.Prelude.{◌≡◌, refl, Bool, true, false, ◌||◌, List, ℕ, suc, ◌<◌, length, set, drop, eqb}
+use Rattle.std.specs.Prelude.{◌≡◌, refl, Bool, true, false, ◌||◌, List, ℕ, suc, ◌<◌, length, set, drop, eqb, None, Some}
 use Rattle.std.proofs.Common.{sym, ◌∙◌, arith, drop-cons, get_or-set_other}
 use Rattle.std.proofs.Math.Path.{ap, subst}
 use Rattle.std.proofs.Math.Logic.{inl, inr}
@@ -12,7 +12,6 @@ use Rattle.model.specs.Hash.{same}
 use Rattle.model.specs.LettingGo.{flagged}
 use Rattle.model.specs.Races.{place_of, has_won, winner}
 use Rattle.model.specs.declared.Hash.{Hash}
-use Rattle.model.specs.declared.Source.TheVariants.{Missing, From}
 use Rattle.laws.specs.Numbers.{both}
 
 -- ---- the place of a hash
@@ -32,11 +31,11 @@ place_end h l = ap (place_of h) (drop-length l)
 
 -- ---- the winner
 
-pub winner_turn : (l : List ℕ) (s : ℕ) (b : Bool) → s < length l → has_won (get_or l s 0) ≡ b → winner s (drop s l) ≡ cond b (From s) (winner (suc s) (drop (suc s) l))
+pub winner_turn : (l : List ℕ) (s : ℕ) (b : Bool) → s < length l → has_won (get_or l s 0) ≡ b → winner s (drop s l) ≡ cond b (Some s) (winner (suc s) (drop (suc s) l))
 unfolding winner
-winner_turn l s b k e = ap (winner s) (drop-cons l s 0 k) ∙ ap (λ (x : Bool). cond x (From s) (winner (suc s) (drop (suc s) l))) e
+winner_turn l s b k e = ap (winner s) (drop-cons l s 0 k) ∙ ap (λ (x : Bool). cond x (Some s) (winner (suc s) (drop (suc s) l))) e
 
-pub winner_end : (l : List ℕ) (s : ℕ) → s ≡ length l → winner s (drop s l) ≡ Missing
+pub winner_end : (l : List ℕ) (s : ℕ) → s ≡ length l → winner s (drop s l) ≡ None
 unfolding winner
 winner_end l s e = rw e (ap (winner (length l)) (drop-length l))
 

@@ -7,17 +7,16 @@ ghost use Rattle.model.specs.Numbers.{max_seat, max_clock, present};
 ghost use Rattle.model.specs.Layout.{window_of};
 ghost use Rattle.model.specs.Cooling.{key_of, mark_peer_unresponsive};
 ghost use Rattle.model.specs.Races.{place_of, all_four, progressed, has_won, winner, race_won, race_progress, record_prefix_probe_delivery};
-ghost use Rattle.model.specs.Window.{with_probe, without_probe, with_cold, with_observation};
+ghost use Rattle.model.specs.Window.{with_probe, without_probe, with_cold, with_observation, probing};
 ghost use Rattle.model.specs.declared.ColdFront.TheVariants.{Idle};
 ghost use Rattle.model.specs.declared.Observation.TheVariants.{Unarmed};
-ghost use Rattle.model.specs.declared.Probe.TheVariants.{Probing};
 ghost use Rattle.laws.specs.Sound.{Sound, SoundSource};
 ghost use Rattle.laws.specs.Whole.{Whole, Holds};
 ghost use Rattle.report_words.specs.Report.{releases_of};
 ghost use Rattle.probe_race.specs.Race.{noted};
 ghost use Rattle.probe_race.specs.Scans.{Flags};
 
-use model::{ColdFront, Hash, Observation, Probe, Source, sizes};
+use model::{ColdFront, Hash, Observation, PrefixProbe, sizes};
 
 // ---- a racer's progress
 
@@ -65,31 +64,27 @@ fn place_of(words: &[u64], h: Hash) -> usize
     ensures { result ≡ place_of h (window_of words.now).races.planned }
 {
     let n = state_races::planned_count(words) as usize;
-    let mut i = 0;
-    while i < n {
+    for i in 0..n {
         let x = state_races::planned_hash(words, i);
         if hash::equal(x, h) {
             return i;
         }
-        i += 1;
     }
     n
 }
 
 // `winner`, from the lowest seat on.
-fn winner(words: &[u64]) -> Source
+fn winner(words: &[u64]) -> Option<u64>
     requires { length words.now ≡ 4096 }
     ensures { (result ≡ winner 0 (window_of words.now).races.racers) × SoundSource result }
 {
-    let mut seat = 0;
-    while seat < sizes::SEATS {
+    for seat in 0..sizes::SEATS {
         let racer = state::racer_of(words, seat);
         if has_won(racer) {
-            return Source::From(seat as u64);
+            return Some(seat as u64);
         }
-        seat += 1;
     }
-    Source::Missing
+    None
 }
 
 // 1 for a seat that keeps what it has: the winner, and one that does not race.
@@ -110,11 +105,9 @@ fn race_flags(words: &[u64], win: usize) -> [u64; sizes::SEATS]
     ensures { Flags win (window_of words.now).races.racers 256 result }
 {
     let mut flags = [0; sizes::SEATS];
-    let mut s = 0;
-    while s < sizes::SEATS {
+    for s in 0..sizes::SEATS {
         let racer = state::racer_of(words, s);
         flags[s] = race_flag(racer, s == win);
-        s += 1;
     }
     flags
 }
@@ -153,7 +146,7 @@ fn race_won(words: &mut [u64], gone: &mut [u64], win: u64, owner: u64, clock: u6
 {
     let first = win as usize;
     let o = owner as usize;
-    let preferred = Source::From(win);
+    let preferred = Some(win);
     let flags = race_flags(words, first);
     end_races(words);
     let n = retain::retain_peer_assignments(words, gone, &flags, 9);
@@ -165,13 +158,17 @@ fn race_won(words: &mut [u64], gone: &mut [u64], win: u64, owner: u64, clock: u6
 // Without a winner the probe goes on, unless all four are in.
 fn race_on(words: &mut [u64], owner: u64, accepted: u64, started: u64)
     requires { Whole words.old × (started ≤ max_clock) }
-    ensures { Holds (cond (all_four accepted) (without_probe (window_of words.old)) (with_probe (Probing owner accepted started) (window_of words.old).races.planned (window_of words.old).races.racers (window_of words.old))) words.new }
+    ensures { Holds (cond (all_four accepted) (without_probe (window_of words.old)) (with_probe (probing owner accepted started) (window_of words.old).races.planned (window_of words.old).races.racers (window_of words.old))) words.new }
 {
     if all_four(accepted) {
         state_races::clear_probe(words);
         return;
     }
-    let p = Probe::Probing(owner, accepted, started);
+    let p = Some(PrefixProbe {
+        owner,
+        accepted,
+        started,
+    });
     state_races::set_probe(words, p);
 }
 
@@ -198,7 +195,7 @@ fn race_progress(
     started: u64,
     clock: u64,
 ) -> usize
-    requires { Whole words.old × (Sound clock (window_of words.old) × ((length gone.old ≡ 2304) × ((i < 8) × ((source ≤ max_seat) × (((window_of words.old).races.probe ≡ Probing owner accepted started)))))) }
+    requires { Whole words.old × (Sound clock (window_of words.old) × ((length gone.old ≡ 2304) × ((i < 8) × ((source ≤ max_seat) × (((window_of words.old).races.probe ≡ probing owner accepted started)))))) }
     ensures { (result ≤ 256)
         × (Holds (race_progress i source owner accepted started clock (window_of words.old)).window words.new)
         × (releases_of result gone.new ≡ (race_progress i source owner accepted started clock (window_of words.old)).gone) }
@@ -209,11 +206,11 @@ fn race_progress(
     note_progress(words, i, bit, s);
     let w = winner(words);
     match w {
-        Source::Missing => {
+        None => {
             race_on(words, owner, all, started);
             0
         }
-        Source::From(win) => race_won(words, gone, win, owner, clock),
+        Some(win) => race_won(words, gone, win, owner, clock),
     }
 }
 
@@ -231,7 +228,14 @@ pub fn record_prefix_probe_delivery(
         × (releases_of result gone.new ≡ (record_prefix_probe_delivery h source clock (window_of words.old)).gone) }
 {
     let p = state_races::get_probe(words);
-    let Probe::Probing(owner, accepted, started) = p else {
+    let Some(
+        PrefixProbe {
+            owner,
+            accepted,
+            started,
+        },
+    ) = p
+    else {
         return 0;
     };
     let i = place_of(words, h);

@@ -9,15 +9,13 @@ ghost use Rattle.model.specs.Records.{found, is_there};
 ghost use Rattle.model.specs.Seats.{is_downloading};
 ghost use Rattle.model.specs.Queries.{source_values, owner_values, stall_values};
 ghost use Rattle.model.specs.Perform.{says};
-ghost use Rattle.model.specs.Says.{perhaps_pair_says};
+ghost use Rattle.model.specs.Says.{perhaps_pair_answer};
 ghost use Rattle.model.specs.Layout.{window_of, rising};
 ghost use Rattle.capacity.specs.OnNumbers.{batch_says};
 ghost use Rattle.laws.specs.Whole.{Whole};
 ghost use Rattle.queries.specs.Values.{seated};
 
-use capacity::Batch;
-use model::{Front, Hash, PerhapsPair, Source, Stall};
-use records::Place;
+use model::{Entry, Hash, StallEpisode};
 
 // ---- capacity
 
@@ -49,7 +47,7 @@ pub fn compute_request_capacity(
     source: u64,
     byte_headroom: u64,
     count_headroom: u64,
-) -> Batch
+) -> Option<(u64, u64)>
     requires { Whole words.now }
     ensures { batch_says result ≡ compute_request_capacity source byte_headroom count_headroom (window_of words.now) }
 {
@@ -84,16 +82,16 @@ pub fn is_downloading(words: &[u64], seat: usize) -> bool
 }
 
 // `stall_values`: the key of the stalling seat, and since when.
-pub fn stalling_peer(words: &[u64]) -> PerhapsPair
+pub fn stalling_peer(words: &[u64]) -> Option<(u64, u64)>
     requires { (length words.now ≡ 4096) × seated (window_of words.now).watch.stall }
-    ensures { perhaps_pair_says result ≡ says 0 (stall_values (window_of words.now).watch.stall (window_of words.now)) }
+    ensures { perhaps_pair_answer result ≡ says 0 (stall_values (window_of words.now).watch.stall (window_of words.now)) }
 {
     let s = state::get_stall(words);
     match s {
-        Stall::Calm => PerhapsPair::Neither,
-        Stall::Episode(owner, _, since) => {
+        None => None,
+        Some(StallEpisode { owner, since, .. }) => {
             let key = state::key_of(words, owner as usize);
-            PerhapsPair::Together(key, since)
+            Some((key, since))
         }
     }
 }
@@ -101,17 +99,17 @@ pub fn stalling_peer(words: &[u64]) -> PerhapsPair
 // ---- the entry of a hash
 
 // `found`, among records that rise
-pub fn found(words: &[u64], h: Hash) -> Front
+pub fn found(words: &[u64], h: Hash) -> Option<Entry>
     requires { Whole words.now × (rising (window_of words.now).queue.pending ≡ true) }
     ensures { result ≡ found h (window_of words.now).queue.pending }
 {
     let p = state_queue::find(words, h);
     match p {
-        Place::Here(at) => {
+        Ok(at) => {
             let e = state_queue::entry_at(words, at);
-            Front::At(e)
+            Some(e)
         }
-        Place::Free(_) => Front::Nothing,
+        Err(_) => None,
     }
 }
 
@@ -122,19 +120,15 @@ pub fn contains_pending(words: &[u64], h: Hash) -> bool
 {
     let p = state_queue::find(words, h);
     match p {
-        Place::Here(_) => true,
-        Place::Free(_) => false,
+        Ok(_) => true,
+        Err(_) => false,
     }
 }
 
 // `owner_values` of `found`
-pub fn pending_owner(words: &[u64], h: Hash) -> Source
+pub fn pending_owner(words: &[u64], h: Hash) -> Option<u64>
     requires { Whole words.now × (rising (window_of words.now).queue.pending ≡ true) }
     ensures { source_values result ≡ owner_values (found h (window_of words.now).queue.pending) }
 {
-    let f = found(words, h);
-    match f {
-        Front::Nothing => Source::Missing,
-        Front::At(e) => Source::From(e.owner),
-    }
+    found(words, h).map(|e| e.owner)
 }

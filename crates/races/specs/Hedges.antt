@@ -1,5 +1,5 @@
 -- What a delivery does to the cold front, and a lost hedge step by step. Assumes nothing.
-use Rattle.std.specs.Prelude.{◌≡◌, refl, Bool, true, false, cond, not, List, [], ℕ, ◌≤◌, ◌<◌, set, replicate, eqb}
+use Rattle.std.specs.Prelude.{◌≡◌, refl, Bool, true, false, cond, not, List, [], ℕ, ◌≤◌, ◌<◌, set, replicate, eqb, Some}
 use Rattle.std.proofs.Common.{sym, ◌∙◌, subst, arith}
 use Rattle.std.proofs.Math.Path.{ap}
 use Rattle.model.specs.Hash.{same}
@@ -13,7 +13,6 @@ use Rattle.model.specs.declared.Hash.{Hash}
 use Rattle.model.specs.declared.Release.{Release}
 use Rattle.model.specs.declared.ColdFront.{ColdFront}
 use Rattle.model.specs.declared.ColdFront.TheVariants.{Idle, Waiting, Racing}
-use Rattle.model.specs.declared.Source.TheVariants.{From}
 use Rattle.laws.specs.Sound.{Sound, SoundCold}
 use Rattle.laws.specs.Parts.{sound_no_probe}
 use Rattle.laws.specs.Pending.{Ranged, sound_ranged}
@@ -43,7 +42,7 @@ module _ (clock owner alternate : ℕ) (w w₁ w₂ : Window) (s : Sound clock w
   unfolding key_of retain_peer_assignments extract seats_kept
   key_kept = rw (e₂, e₁) (s.keys.most owner)
 
-  pub lost_window : (w₃ : Window) → w₃ ≡ mark_peer_unresponsive owner clock w₂ → with_preferred (From alternate) w₃ ≡ (hedge_lost owner alternate clock w).window
+  pub lost_window : (w₃ : Window) → w₃ ≡ mark_peer_unresponsive owner clock w₂ → with_preferred (Some alternate) w₃ ≡ (hedge_lost owner alternate clock w).window
   unfolding hedge_lost
   lost_window w₃ e₃ = rw (e₃, e₂, but_one)
 

@@ -12,7 +12,7 @@ ghost use Rattle.model.specs.declared.ColdFront.TheVariants.{Racing};
 ghost use Rattle.report_words.specs.Report.{releases_of};
 ghost use Rattle.races.specs.Hedges.{resolved, Seated};
 
-use model::{ColdFront, Hash, Source, sizes};
+use model::{ColdFront, Hash, sizes};
 
 // What a delivery means to the cold front: nothing, its end, or that its owner lost to the alternate.
 #[derive(Clone, Copy)]
@@ -66,7 +66,7 @@ fn hedge_lost(
 {
     let mut flags: [u64; sizes::SEATS] = [1; sizes::SEATS];
     flags[owner] = 0;
-    let preferred = Source::From(alternate);
+    let preferred = Some(alternate);
     state_races::clear_probe(words);
     let n = retain::retain_peer_assignments(words, gone, &flags, 10);
     state_cooling::mark_peer_unresponsive(words, owner, clock);

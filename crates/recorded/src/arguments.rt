@@ -1,13 +1,11 @@
 // The arguments of a call, in the order of crates/kofudile/API.md: plain ones first, then each list with its length before it.
 ghost use Rattle.std.specs.Prelude.{◌≡◌, ◌≤◌, length};
-ghost use Rattle.flat.specs.Flat.{height_if};
-ghost use Rattle.heights.specs.Heights.{wide};
+ghost use Rattle.std.specs.Bool.{then_some};
 ghost use Rattle.recorded.specs.Stream.{on, low, row_at, is_set};
 ghost use Rattle.recorded.specs.Args.{args_at, settings_of, opening_at, asked_at, confirmed_at};
 
 use crate::stream::{hash_at, hashes_at, heights_at, length_at, low, nth, on, seats_at};
 use crate::{Args, Asked, Confirmed, Opening};
-use heights::Height32;
 use model::Settings;
 
 pub fn args_at(numbers: &[u64], at: u64) -> Args
@@ -113,8 +111,8 @@ pub fn flags_at(numbers: &[u64], at: u64) -> [u64; 256]
 }
 
 // A height that may be missing, by the number before it.
-pub fn height_of(there: u64, height: u64) -> Height32
-    ensures { wide result ≡ height_if (is_set there) (low height) }
+pub fn height_of(there: u64, height: u64) -> Option<u32>
+    ensures { result ≡ then_some (is_set there) (low height) }
 {
-    flat::height_of(there != 0, low(height))
+    (there != 0).then_some(low(height))
 }

@@ -28,28 +28,9 @@ fn same_part(
     requires { 0 < every }
     ensures { result ≡ same_part every first last words.now numbers.now at n (length words.now) }
 {
-    let mut same = true;
-    let mut i: usize = 0;
-    while i < words.len() {
-        let x = get(numbers, on(at, i as u64));
-        let o = skips(i, every, first, last);
-        same = same & ((i as u64 >= n) | o | (words[i] == x));
-        i += 1;
-    }
-    same
-}
-
-// Whether two rows of words are the same.
-fn same_words(a: &[u64], b: &[u64]) -> bool
-    ensures { result ≡ same_rows a.now b.now }
-{
-    let mut same = a.len() == b.len();
-    let mut i: usize = 0;
-    while i < a.len() {
-        same = same & (a[i] == get(b, i as u64));
-        i += 1;
-    }
-    same
+    words.iter().enumerate().all(|(i, word)| {
+        i as u64 >= n || skips(i, every, first, last) || *word == get(numbers, on(at, i as u64))
+    })
 }
 
 // Fields of the answer.
@@ -97,7 +78,6 @@ pub fn compared(s: Said, words: &[u64], expected: &[u64], numbers: &[u64], r: Re
     let order = same_places(gone, numbers, r, 0, sizes::HASH_WORDS);
     let values = same_places(gone, numbers, r, of_release::OWNER, of_release::REASON);
     let reasons = same_places(gone, numbers, r, of_release::REASON, sizes::RELEASE_WORDS);
-    let all = same_words(words, expected);
     Same {
         refusal,
         answer,
@@ -105,7 +85,7 @@ pub fn compared(s: Said, words: &[u64], expected: &[u64], numbers: &[u64], r: Re
         order,
         values,
         reasons,
-        words: all,
+        words: words == expected,
     }
 }
 

@@ -43,12 +43,9 @@ pub fn read_numbers(bytes: &[u8], out: &mut [u64])
     let mut left: u64 = 0;
     let mut value: u64 = 0;
     let mut n: usize = 0;
-    let mut i: usize = 0;
-    while i < bytes.len() {
-        let b = bytes[i];
-        value = value_after(left, value, b);
-        left = left_after(left, b);
+    for b in bytes {
+        value = value_after(left, value, *b);
+        left = left_after(left, *b);
         n = kept(out, n, left, value);
-        i += 1;
     }
 }

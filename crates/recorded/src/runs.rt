@@ -56,10 +56,8 @@ fn put_run(words: &mut [u64], numbers: &[u64], at: u64)
 {
     let first = get(numbers, at);
     let n = nth(numbers, at, 1);
-    let mut i: usize = 0;
-    while i < words.len() {
-        words[i] = word_after(numbers, at, first, n, i as u64, words[i]);
-        i += 1;
+    for (i, word) in words.iter_mut().enumerate() {
+        *word = word_after(numbers, at, first, n, i as u64, *word);
     }
 }
 
@@ -74,13 +72,11 @@ pub fn put_runs(words: &mut [u64], numbers: &[u64], from: u64, end: u64)
     ensures { words.new ≡ runs_put 4096 numbers.now from end words.old }
 {
     let mut at = from;
-    let mut turns: u64 = 4096;
-    while 0 < turns {
+    for _ in 0..4096_u32 {
         if at >= end {
             return;
         }
         put_run(words, numbers, at);
         at = next_run(numbers, at);
-        turns -= 1;
     }
 }

@@ -51,10 +51,8 @@ pub fn low(x: u64) -> u32
 fn fill(l: &mut [u64], numbers: &[u64], at: u64)
     ensures { l.new ≡ each (λ i _. nth numbers.now at i) l.old }
 {
-    let mut i: usize = 0;
-    while i < l.len() {
-        l[i] = nth(numbers, at, i as u64);
-        i += 1;
+    for (i, x) in l.iter_mut().enumerate() {
+        *x = nth(numbers, at, i as u64);
     }
 }
 
@@ -80,10 +78,8 @@ pub(crate) fn heights_at(numbers: &[u64], at: u64) -> [u32; 256]
     ensures { result ≡ heights_at 256 numbers.now at }
 {
     let mut l: [u32; 256] = [0; 256];
-    let mut i: usize = 0;
-    while i < 256 {
-        l[i] = low(nth(numbers, at, i as u64));
-        i += 1;
+    for (i, height) in l.iter_mut().enumerate() {
+        *height = low(nth(numbers, at, i as u64));
     }
     l
 }

@@ -4,7 +4,7 @@ use mathlib.Core.List.{List, [], ◌∷◌, ◌++◌, map, append_assoc}
 use Prim.Native.Nat.{ℕ, zero, suc, ◌+◌, ◌-◌, ◌*◌, ◌≤◌, ◌<◌}
 use native.Mathlib.Omega.{arith}
 use lib.ListN.{length, take, drop, replicate, length-append, length-drop, take-append-drop}
-use lib.Seq.{take_at, drop_at, length-take-le}
+use lib.Seq.{take_at, drop_at, length-take-le, take-take}
 use Rattle.model.specs.Lists.{pad}
 use Rattle.column.specs.Edits.{remove_at, insert_at, inserted}
 use Rattle.model.specs.Layout.{blank, rows, field, decode}
@@ -12,7 +12,7 @@ use Rattle.model.specs.declared.Entry.{Entry}
 use Rattle.column.proofs.Laws.{length_removed, length_inserted}
 use Rattle.column.proofs.Pads.{removed_pad, inserted_pad}
 use Rattle.column.proofs.Parts.{put}
-use Rattle.laws.specs.Rows.{col, mid, col_rows, field_blank, Upto}
+use Rattle.laws.specs.Rows.{col, mid, col_rows, field_blank, map_take, Upto}
 
 -- ---- the columns of entries that are blank from a place on
 
@@ -42,6 +42,14 @@ pub mid_long : (k : ℕ) (w₀ w : List ℕ) → k < 8 → length w₀ ≡ 4096 
 mid_long k w₀ w b n e =
     let m : 256 * k + 256 - 256 * k ≡ 256 = omega arith in
     rw m (length-take-le 256 (drop (256 * k) w) (rw length-drop (omega arith)))
+
+-- the live words of a column are those of the live records
+pub live_col : (k m : ℕ) (ws : List ℕ) → k < 8 → m ≤ 256 → length ws ≡ 4096
+    → take (256 * k + m - 256 * k) (drop (256 * k) ws) ≡ map (field k) (take m (rows 256 ws))
+live_col k m ws b le n =
+    let e : 256 * k + m - 256 * k ≡ m = omega arith in
+    ap (λ (j : ℕ). take j (drop (256 * k) ws)) e
+    ∙ sym (map_take (field k) m (rows 256 ws) ∙ ap (take m) (col_rows k b 256 ws (omega arith)) ∙ take-take m 256 (drop (256 * k) ws) le)
 
 -- ---- one out, one in
 
@@ -88,7 +96,7 @@ module _ (c : List ℕ) (live : ℕ) (long : length c ≡ 256) (few : live ≤ 2
       ∙ ap (inserted at v) (sym padded)
 
 -- ---- a loop over the eight columns that is through
-pub all_columns : {F : ℕ → List ℕ → List ℕ} {k : ℕ} {w₀ w : List ℕ} → (k ≤ 8) × Upto F k w₀ w → 8 ≤ k → Upto F 8 w₀ w
-all_columns {F} {k} {w₀} {w} d h =
-    let eight : k ≡ 8 = omega (arith, d.0) in
-    subst (λ (j : ℕ). Upto F j w₀ w) eight d.1
+pub all_columns : {F : ℕ → List ℕ → List ℕ} {k : ℕ} {w₀ w : List ℕ} → Upto F k w₀ w → k ≤ 8 → 8 ≤ k → Upto F 8 w₀ w
+all_columns {F} {k} {w₀} {w} d most h =
+    let eight : k ≡ 8 = omega arith in
+    subst (λ (j : ℕ). Upto F j w₀ w) eight d

@@ -1,6 +1,6 @@
 -- Where a hash stands among entries, what a scan for the lowest finds, and a time that may be missing. Definitions, and what they are where the
 -- entries rise. Assumes nothing.
-use Rattle.std.specs.Prelude.{◌≡◌, refl, true, false, cond, List, [], ◌∷◌, ℕ, zero, suc, ◌≤◌, ◌<◌, length, get_or, ltb}
+use Rattle.std.specs.Prelude.{◌≡◌, refl, true, false, cond, List, [], ◌∷◌, ℕ, zero, suc, ◌≤◌, ◌<◌, length, get_or, ltb, Option, Some, None, Result, Ok, Err}
 use Rattle.std.proofs.Common.{ap, suc-le-suc, zero-le, le_of_suc-le-suc, not-suc-le-zero, arith, ltb-true, ltb-false, lt-ltb, le-ltb, eqb-true, ne_eqb}
 use Rattle.std.proofs.lemmas.Bool.{eqb-false}
 use Rattle.model.specs.Numbers.{greater}
@@ -11,12 +11,6 @@ use Rattle.model.specs.Layout.{blank, less_first, rising}
 use Rattle.laws.specs.Numbers.{and_left, and_right}
 use Rattle.model.specs.declared.Hash.{Hash}
 use Rattle.model.specs.declared.Entry.{Entry}
-use Rattle.model.specs.declared.Front.{Front}
-use Rattle.model.specs.declared.Front.TheVariants.{Nothing, At}
-use Rattle.records.specs.declared.Place.{Place}
-use Rattle.records.specs.declared.Place.TheVariants.{Here, Free}
-use Rattle.records.specs.declared.Oldest.{Oldest}
-use Rattle.records.specs.declared.Oldest.TheVariants.{Never, Since}
 
 -- r parts l: the entry before it comes before h, and the one at it does not
 pub record Parts (h : Hash) (l : List Entry) (r : ℕ) : Type 0 where
@@ -25,18 +19,18 @@ pub record Parts (h : Hash) (l : List Entry) (r : ℕ) : Type 0 where
   pub from : r < length l → less (get_or l r blank).hash h ≡ false
 
 -- what a search for h in l answers: a place that parts l, and whether h is there
-abbrev pub Finds : Hash → List Entry → Place → Type 0
-Finds h l (Here r) = Parts h l r × ((r < length l) × (same (get_or l r blank).hash h ≡ true))
-Finds h l (Free r) = Parts h l r × (r < length l → same (get_or l r blank).hash h ≡ false)
+abbrev pub Finds : Hash → List Entry → Result ℕ ℕ → Type 0
+Finds h l (Ok r) = Parts h l r × ((r < length l) × (same (get_or l r blank).hash h ≡ true))
+Finds h l (Err r) = Parts h l r × (r < length l → same (get_or l r blank).hash h ≡ false)
 
 -- the entry at a place below n
-unfoldable pub front_at : ℕ → ℕ → List Entry → Front
-front_at n r l = cond (ltb r n) (At (get_or l r blank)) Nothing
+unfoldable pub front_at : ℕ → ℕ → List Entry → Option Entry
+front_at n r l = cond (ltb r n) (Some (get_or l r blank)) None
 
 -- a time that may be missing, as it is stored
-abbrev pub stored : Oldest → ℕ
-stored Never = 0
-stored (Since t) = suc t
+abbrev pub stored : Option ℕ → ℕ
+stored None = 0
+stored (Some t) = suc t
 
 -- the same, no lower than m where there is one
 abbrev pub floored : ℕ → ℕ → ℕ
@@ -97,13 +91,13 @@ parts_tail : (h : Hash) (x : Entry) (l : List Entry) (r : ℕ) → Parts h (x �
 parts_tail h x l r p = record { within = le_of_suc-le-suc p.within; before = λ k e. p.before (suc k) (ap suc e); from = λ lt. p.from (suc-le-suc lt) }
 
 -- none of entries that rise, from one above h on, is of the hash h
-none_above : (h : Hash) (x : Entry) (l : List Entry) → key h < key x.hash → rising (x ∷ l) ≡ true → found h (x ∷ l) ≡ Nothing
+none_above : (h : Hash) (x : Entry) (l : List Entry) → key h < key x.hash → rising (x ∷ l) ≡ true → found h (x ∷ l) ≡ None
 unfolding found
 none_above h x [] lt u = rw (apart x.hash h lt)
 none_above h x (y ∷ l) lt u = rw (apart x.hash h lt) (none_above h y l (omega (arith, lt, next_less x y l u)) (tail_rises x (y ∷ l) u))
 
 -- one that is there is found and removed at its place
-pub here_found : (h : Hash) (l : List Entry) (r : ℕ) → rising l ≡ true → Finds h l (Here r) → (found h l ≡ At (get_or l r blank)) × (remove h l ≡ remove_at r l)
+pub here_found : (h : Hash) (l : List Entry) (r : ℕ) → rising l ≡ true → Finds h l (Ok r) → (found h l ≡ Some (get_or l r blank)) × (remove h l ≡ remove_at r l)
 unfolding found remove
 here_found h [] r u (p, (lt, s)) = absurd (not-suc-le-zero lt)
 here_found h (x ∷ l) zero u (p, (lt, s)) = (rw s, rw s)
@@ -113,8 +107,8 @@ here_found h (x ∷ l) (suc r) u (p, (lt, s)) =
     (rw o rest.0, rw o (ap (λ (m : List Entry). x ∷ m) rest.1))
 
 -- one that is not goes in at its place
-pub free_found : (h : Hash) (l : List Entry) (r : ℕ) → rising l ≡ true → Finds h l (Free r)
-    → (found h l ≡ Nothing) × ((e : Entry) → key e.hash ≡ key h → insert e l ≡ insert_at r e l)
+pub free_found : (h : Hash) (l : List Entry) (r : ℕ) → rising l ≡ true → Finds h l (Err r)
+    → (found h l ≡ None) × ((e : Entry) → key e.hash ≡ key h → insert e l ≡ insert_at r e l)
 unfolding found insert
 free_found h [] zero u (p, s) = (refl, λ e q. refl)
 free_found h [] (suc r) u (p, s) = absurd (not-suc-le-zero p.within)

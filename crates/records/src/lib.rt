@@ -15,21 +15,7 @@ ghost use Rattle.records.specs.Places.{Parts, Finds, front_at, stored, floored};
 ghost use Rattle.records.specs.Cleared.{all_marked};
 
 use model::sizes::COLUMNS;
-use model::{Entry, Front, Hash, at, sizes};
-
-// Where a hash is among the records, or where it would go.
-#[derive(Clone, Copy)]
-pub enum Place {
-    Here(usize),
-    Free(usize),
-}
-
-// The least request time of an owner, where it has records.
-#[derive(Clone, Copy)]
-pub enum Oldest {
-    Never,
-    Since(u64),
-}
+use model::{Entry, Hash, at, sizes};
 
 // ---- one record
 
@@ -74,12 +60,10 @@ pub fn remove(words: &mut [u64], live: usize, at: usize)
     requires { (length words.old ≡ 4096) × (live ≤ 256) × (at < live) × (drop live (decode words.old).entries ≡ replicate (256 - live) blank) }
     ensures { decode words.new ≡ removed at (decode words.old) }
 {
-    let mut k = 0;
-    while k < COLUMNS {
+    for k in 0..COLUMNS {
         let a = sizes::PLACES * k;
         let e = a + sizes::PLACES;
         remove_live(&mut words[a..e], live, at);
-        k += 1;
     }
 }
 
@@ -106,13 +90,11 @@ pub fn insert(words: &mut [u64], live: usize, at: usize, e: Entry)
     requires { (length words.old ≡ 4096) × (live < 256) × (at ≤ live) × (drop live (decode words.old).entries ≡ replicate (256 - live) blank) }
     ensures { decode words.new ≡ put_in at e (decode words.old) }
 {
-    let mut k = 0;
-    while k < COLUMNS {
+    for k in 0..COLUMNS {
         let a = sizes::PLACES * k;
         let z = a + sizes::PLACES;
         let v = field_of(e, k);
         insert_live(&mut words[a..z], live, at, v);
-        k += 1;
     }
 }
 
@@ -121,12 +103,10 @@ pub fn keep(words: &mut [u64], marks: &[u64])
     requires { (length words.old ≡ 4096) × (length marks.now ≡ 256) }
     ensures { decode words.new ≡ kept_rows marks.now (decode words.old) }
 {
-    let mut k = 0;
-    while k < COLUMNS {
+    for k in 0..COLUMNS {
         let a = sizes::PLACES * k;
         let e = a + sizes::PLACES;
         column::keep_unmarked(&mut words[a..e], marks);
-        k += 1;
     }
 }
 
@@ -135,12 +115,10 @@ pub fn clear(words: &mut [u64])
     requires { length words.old ≡ 4096 }
     ensures { decode words.new ≡ kept_rows all_marked (decode words.old) }
 {
-    let mut k = 0;
-    while k < COLUMNS {
+    for k in 0..COLUMNS {
         let a = sizes::PLACES * k;
         let e = a + sizes::PLACES;
         column::clear_from(&mut words[a..e], 0);
-        k += 1;
     }
 }
 
@@ -156,6 +134,7 @@ fn comes_before(words: &[u64], i: usize, h: Hash) -> bool
 }
 
 // By halving: at most nine looks where a scan would take 128 on the mean; and what it promises, `Parts`, needs no order among the records.
+// By hand: the library's searches go over one slice, where a hash is in four, and promise `Parts` only of one in order.
 fn parting(words: &[u64], count: usize, h: Hash) -> usize
     requires { (length words.now ≡ 4096) × (count ≤ 256) }
     ensures { Parts h (take count (decode words.now).entries) result }
@@ -173,8 +152,9 @@ fn parting(words: &[u64], count: usize, h: Hash) -> usize
     lo
 }
 
-// `Finds`: the place of a hash, or the one where it would go. On rising records `Here` is `found` and `remove`, `Free` is `insert`.
-pub fn find(words: &[u64], count: usize, h: Hash) -> Place
+// `Finds`: the place of a hash, or else the one where it would go, as the library's searches answer. On rising records `Ok` is `found` and `remove`,
+// `Err` is `insert`.
+pub fn find(words: &[u64], count: usize, h: Hash) -> Result<usize, usize>
     requires { (length words.now ≡ 4096) × (count ≤ 256) }
     ensures { Finds h (take count (decode words.now).entries) result }
 {
@@ -182,13 +162,13 @@ pub fn find(words: &[u64], count: usize, h: Hash) -> Place
     if at < count {
         let g = hash_of(words, at);
         if hash::equal(g, h) {
-            return Place::Here(at);
+            return Ok(at);
         }
     }
-    Place::Free(at)
+    Err(at)
 }
 
-// ---- scans, from the last record to the first, so that what is found is the definition's own recursion
+// ---- scans
 
 // `pending_count_for`
 pub fn pending_count_for(words: &[u64], count: usize, owner: u64) -> u64
@@ -196,10 +176,8 @@ pub fn pending_count_for(words: &[u64], count: usize, owner: u64) -> u64
     ensures { result ≡ pending_count_for owner (take count (decode words.now).entries) }
 {
     let mut n = 0;
-    let mut i = count;
-    while 0 < i {
-        i -= 1;
-        if words[i + at::OWNERS] == owner {
+    for seat in &words[at::OWNERS..at::OWNERS + count] {
+        if *seat == owner {
             n += 1;
         }
     }
@@ -229,50 +207,42 @@ fn any_after(o: u64, owner: u64, any: bool) -> bool
     if o == owner { true } else { any }
 }
 
-fn oldest_by(any: bool, low: u64) -> Oldest
+fn oldest_by(any: bool, low: u64) -> Option<u64>
     ensures { stored result ≡ cond any (suc low) 0 }
 {
-    if any {
-        Oldest::Since(low)
-    } else {
-        Oldest::Never
-    }
+    any.then_some(low)
 }
 
 // `oldest`, no lower than a floor that is as it is stored: below it the scan ends, since how much older a record is does not matter. The loop holds
 // plain numbers, and the answer is made after it: an enum in the loop would go through memory at every turn. A time may be any number, so whether
-// there is one is a flag of its own.
-pub fn oldest_from(words: &[u64], count: usize, owner: u64, floor: u64) -> Oldest
+// there is one is a flag of its own. From the last record to the first, as `oldest` goes.
+pub fn oldest_from(words: &[u64], count: usize, owner: u64, floor: u64) -> Option<u64>
     requires { (length words.now ≡ 4096) × (count ≤ 256) }
     ensures { stored result ≡ floored floor (oldest owner (take count (decode words.now).entries)) }
 {
     let mut any = false;
     let mut low = u64::MAX;
-    let mut i = count;
-    while 0 < i {
-        i -= 1;
+    for i in (0..count).rev() {
         let o = words[i + at::OWNERS];
         let t = words[i + at::TIMES];
         low = low_after(o, owner, t, low);
         any = any_after(o, owner, any);
         if low < floor {
             let least = floor - 1;
-            return Oldest::Since(least);
+            return Some(least);
         }
     }
     oldest_by(any, low)
 }
 
-// The place of the lowest record, the first among equals; `count` where there is none.
+// The place of the lowest record, the first among equals; `count` where there is none. From the last record to the first, as `lowest` goes.
 fn lowest_place(words: &[u64], count: usize) -> usize
     requires { (length words.now ≡ 4096) × (count ≤ 256) }
     ensures { lowest (take count (decode words.now).entries) ≡ front_at count result (decode words.now).entries }
 {
     let mut best = count;
     let mut low = u64::MAX;
-    let mut i = count;
-    while 0 < i {
-        i -= 1;
+    for i in (0..count).rev() {
         let g = words[i + at::HEIGHTS];
         if g <= low {
             best = i;
@@ -283,32 +253,28 @@ fn lowest_place(words: &[u64], count: usize) -> usize
 }
 
 // `lowest`
-pub fn lowest(words: &[u64], count: usize) -> Front
+pub fn lowest(words: &[u64], count: usize) -> Option<Entry>
     requires { (length words.now ≡ 4096) × (count ≤ 256) }
     ensures { result ≡ lowest (take count (decode words.now).entries) }
 {
     let at = lowest_place(words, count);
     if at < count {
         let e = entry_of(words, at);
-        return Front::At(e);
+        return Some(e);
     }
-    Front::Nothing
+    None
 }
 
 // `at_height`
-pub fn at_height(words: &[u64], count: usize, height: u64) -> Front
+pub fn at_height(words: &[u64], count: usize, height: u64) -> Option<Entry>
     requires { (length words.now ≡ 4096) × (count ≤ 256) }
     ensures { result ≡ at_height height (take count (decode words.now).entries) }
 {
-    let mut i = 0;
-    while i < count {
-        if words[i + at::HEIGHTS] == height {
-            let e = entry_of(words, i);
-            return Front::At(e);
-        }
-        i += 1;
+    let heights = &words[at::HEIGHTS..at::HEIGHTS + count];
+    match heights.iter().position(|h| *h == height) {
+        Some(i) => Some(entry_of(words, i)),
+        None => None,
     }
-    Front::Nothing
 }
 
 // `was_front`
@@ -316,12 +282,7 @@ pub fn was_front(words: &[u64], count: usize, height: u64) -> bool
     requires { (length words.now ≡ 4096) × (count ≤ 256) }
     ensures { result ≡ was_front height (take count (decode words.now).entries) }
 {
-    let mut i = 0;
-    while i < count {
-        if words[i + at::HEIGHTS] <= height {
-            return false;
-        }
-        i += 1;
-    }
-    true
+    words[at::HEIGHTS..at::HEIGHTS + count]
+        .iter()
+        .all(|h| height < *h)
 }

@@ -1,5 +1,5 @@
 -- One entry out of words that hold a window. Assumes nothing.
-use Rattle.std.specs.Prelude.{◌≡◌, refl, ℕ, zero, suc, ◌+◌, ◌-◌, ◌≤◌, ◌<◌, length}
+use Rattle.std.specs.Prelude.{◌≡◌, refl, ℕ, zero, suc, ◌+◌, ◌-◌, ◌≤◌, ◌<◌, length, Ok, Err, None, Some, Option}
 use Rattle.std.proofs.Common.{sym, ◌∙◌, subst, le_of_suc-le-suc, not-suc-le-zero, arith}
 use Rattle.std.proofs.Math.Path.{ap}
 use mathlib.Core.List.{List, [], ◌∷◌, ◌++◌}
@@ -14,16 +14,11 @@ use Rattle.model.specs.Window.{Window, Queue, queue, Step, stay, after, with_que
 use Rattle.model.specs.Layout.{blank, window_of}
 use Rattle.model.specs.declared.Hash.{Hash}
 use Rattle.model.specs.declared.Entry.{Entry}
-use Rattle.model.specs.declared.Front.{Front}
-use Rattle.model.specs.declared.Front.TheVariants.{Nothing, At}
-use Rattle.model.specs.declared.Height.{Height}
-use Rattle.model.specs.declared.Height.TheVariants.{Unknown, Known}
 use Rattle.laws.specs.Sound.{InRange, Sound}
 use Rattle.laws.specs.Valid.{rising_is}
 use Rattle.laws.specs.Pending.{each_at}
 use Rattle.laws.specs.Whole.{Whole, Holds, holds_whole}
 use Rattle.records.specs.Places.{Finds, here_found, free_found}
-use Rattle.records.specs.declared.Place.TheVariants.{Here, Free}
 use Rattle.report_words.specs.Report.{releases_of}
 use Rattle.state_queue.specs.Steps.{entries_put, without_is}
 
@@ -62,39 +57,39 @@ out_holds ws ws₁ ws₂ ws₃ i r now low e q f a b c =
 
 -- what it is to the model
 module _ (now r : ℕ) (h : Hash) (ws : List ℕ) (g : Sound now (window_of ws)) where
-  pub found_out : (i : ℕ) (e : Entry) → e ≡ get_or (window_of ws).queue.pending i blank → Finds h (window_of ws).queue.pending (Here i)
+  pub found_out : (i : ℕ) (e : Entry) → e ≡ get_or (window_of ws).queue.pending i blank → Finds h (window_of ws).queue.pending (Ok i)
       → remove_pending h r now (window_of ws) ≡ record { window = out_at i e r now (window_of ws); gone = release e r ∷ [] }
   unfolding remove_pending out_at
   found_out i e q f =
       let w = window_of ws in
       let u = rising_is 0 w.queue.pending g.queue.rising in
       let x = get_or w.queue.pending i blank in
-      ap (λ (z : Front). take_out r now z w) (here_found h w.queue.pending i u f).0
+      ap (λ (z : Option Entry). take_out r now z w) (here_found h w.queue.pending i u f).0
       ∙ ap (λ (k : Queue). record { window = with_frontier (lowered r x.height w.frontier) (with_queue (reset_owner_queue_start x.owner x.time now k) w); gone = release x r ∷ [] }) (sym (without_is h i w.queue u f))
       ∙ ap (λ (y : Entry). record { window = with_frontier (lowered r y.height w.frontier) (with_queue (reset_owner_queue_start y.owner y.time now (queue (w.queue.total - y.estimate) (remove_at i w.queue.pending) w.queue.starts w.queue.bodies)) w); gone = release y r ∷ [] }) (sym q)
 
-  pub not_found : (i : ℕ) → Finds h (window_of ws).queue.pending (Free i) → remove_pending h r now (window_of ws) ≡ stay (window_of ws)
+  pub not_found : (i : ℕ) → Finds h (window_of ws).queue.pending (Err i) → remove_pending h r now (window_of ws) ≡ stay (window_of ws)
   unfolding remove_pending
   not_found i f =
       let w = window_of ws in
-      ap (λ (z : Front). take_out r now z w) (free_found h w.queue.pending i (rising_is 0 w.queue.pending g.queue.rising) f).0
+      ap (λ (z : Option Entry). take_out r now z w) (free_found h w.queue.pending i (rising_is 0 w.queue.pending g.queue.rising) f).0
 
 -- a place that a search answered
 module _ (now r : ℕ) (h : Hash) (ws ws' core core' : List ℕ) (hold : Whole ws) (g : Sound now (window_of ws)) where
-  pub removed_holds : (i : ℕ) (e : Entry) → e ≡ get_or (window_of ws).queue.pending i blank → Finds h (window_of ws).queue.pending (Here i)
+  pub removed_holds : (i : ℕ) (e : Entry) → e ≡ get_or (window_of ws).queue.pending i blank → Finds h (window_of ws).queue.pending (Ok i)
       → Holds (out_at i e r now (window_of ws)) ws' → releases_of 1 core' ≡ releases_of 0 core ++ (release e r ∷ [])
       → Holds (remove_pending h r now (window_of ws)).window ws' × (releases_of 1 core' ≡ (remove_pending h r now (window_of ws)).gone)
   unfolding releases_of
   removed_holds i e q f a b = rw (found_out now r h ws g i e q f) (a, b)
 
-  pub stays_held : (i : ℕ) → Finds h (window_of ws).queue.pending (Free i)
+  pub stays_held : (i : ℕ) → Finds h (window_of ws).queue.pending (Err i)
       → Holds (remove_pending h r now (window_of ws)).window ws × (releases_of 0 core ≡ (remove_pending h r now (window_of ws)).gone)
   unfolding releases_of
   stays_held i f = rw (not_found now r h ws g i f) (holds_whole ws hold, refl)
 
 -- a height that was named, after it
-pub then_lowered : (s : Step) (n : Height) (ws₁ ws₂ : List ℕ) → Holds s.window ws₁ → Holds (lower_to n (window_of ws₁)) ws₂ → Holds (after s (lower_to n)).window ws₂
+pub then_lowered : (s : Step) (n : Option ℕ) (ws₁ ws₂ : List ℕ) → Holds s.window ws₁ → Holds (lower_to n (window_of ws₁)) ws₂ → Holds (after s (lower_to n)).window ws₂
 then_lowered s n ws₁ ws₂ a b = subst (λ (v : Window). Holds v ws₂) (ap (lower_to n) a.is) b
 
-pub lowered_holds : (ws ws' : List ℕ) (n f low : ℕ) → f ≡ (window_of ws).frontier → low ≡ lesser f n → Holds (with_frontier low (window_of ws)) ws' → Holds (lower_to (Known n) (window_of ws)) ws'
+pub lowered_holds : (ws ws' : List ℕ) (n f low : ℕ) → f ≡ (window_of ws).frontier → low ≡ lesser f n → Holds (with_frontier low (window_of ws)) ws' → Holds (lower_to (Some n) (window_of ws)) ws'
 lowered_holds ws ws' n f low q e a = subst (λ (x : ℕ). Holds (with_frontier x (window_of ws)) ws') (e ∙ ap (λ (x : ℕ). lesser x n) q) a

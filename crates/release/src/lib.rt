@@ -10,8 +10,7 @@ ghost use Rattle.laws.specs.Whole.{Whole, Holds};
 ghost use Rattle.report_words.specs.Report.{releases_of};
 ghost use Rattle.release.specs.Removes.{out_at};
 
-use model::{Entry, Hash, Height};
-use records::Place;
+use model::{Entry, Hash};
 
 // ---- one entry
 
@@ -43,13 +42,13 @@ pub fn remove_pending(
 {
     let p = state_queue::find(words, h);
     match p {
-        Place::Here(at) => {
+        Ok(at) => {
             let e = state_queue::entry_at(words, at);
             let_out(words, at, e, reason, clock);
             report_words::put_release(gone, 0, e, reason);
             return 1;
         }
-        Place::Free(_) => {
+        Err(_) => {
             return 0;
         }
     }
@@ -66,17 +65,14 @@ pub fn release_pending(words: &mut [u64], gone: &mut [u64], h: Hash, clock: u64)
 }
 
 // `lower_to`: a height that was named lowers the frontier.
-fn lower_to(words: &mut [u64], named: Height)
+fn lower_to(words: &mut [u64], named: Option<u64>)
     requires { Whole words.old }
     ensures { Holds (lower_to named (window_of words.old)) words.new }
 {
-    match named {
-        Height::Unknown => {}
-        Height::Known(n) => {
-            let f = state::get_frontier(words);
-            let low = numbers::lesser(f, n);
-            state::set_frontier(words, low);
-        }
+    if let Some(n) = named {
+        let f = state::get_frontier(words);
+        let low = numbers::lesser(f, n);
+        state::set_frontier(words, low);
     }
 }
 
@@ -85,7 +81,7 @@ pub fn requeue_for_retry(
     words: &mut [u64],
     gone: &mut [u64],
     h: Hash,
-    named: Height,
+    named: Option<u64>,
     clock: u64,
 ) -> usize
     requires { Whole words.old × (Sound clock (window_of words.old) × (9 ≤ length gone.old)) }

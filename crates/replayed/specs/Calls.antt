@@ -1,9 +1,10 @@
 -- Which call a recorded number stands for, with its arguments (the numbers and the order of crates/kofudile/API.md), and the row that its answer makes. Definitions only.
 use Rattle.std.specs.Prelude.{◌≡◌, Bool, cond, ◌&&◌, ◌||◌, List, [], ◌∷◌, ℕ, eqb, leb, take}
+use Rattle.std.specs.Bool.{then_some}
 use Rattle.model.specs.Queries.{Query, reads, preferred_peer, probe_plan, probe_start, front_interval_ewma_ms, asks_owner, asks_queue_start, asks_compute_capacity, asks_probe_offered, pending_len, pending_bytes, asks_expired_capacity, stall_timeout, max_pending_blocks, min_peers_for_fanout, fanout_active, pending_high_water, stalling_peer, peer_inflight, active_peers, decay_floor, request_cursor, ewma_block_bytes, asks_request_capacity, asks_contains, asks_count_for, asks_downloading, owner_timeout, asks_hedge_offered, asks_has_expired, asks_cooldown}
 use Rattle.model.specs.Refusals.{Change, Call, opens, changes, queries, requests, fetches, receives, credits, credits_duplicate, rejects, expires, requeues, releases, retires, retains, marks_unresponsive, confirms_probe, confirms_hedge, observes, sets_fanout, clears_preferred}
 use Rattle.model.specs.Perform.{Answer, perform}
-use Rattle.flat.specs.Flat.{done_flat, number_flat, pair_flat, perhaps_flat, perhaps_pair_flat, gone_flat, received_flat, rejected_flat, blocked_flat, plan_flat, source_if, height_if, sought_if}
+use Rattle.flat.specs.Flat.{done_flat, number_flat, pair_flat, perhaps_flat, perhaps_pair_flat, gone_flat, received_flat, rejected_flat, blocked_flat, plan_flat}
 use Rattle.observation.specs.Look.{look}
 use Rattle.letting_go.specs.Letting.{places}
 use Rattle.report_words.specs.Report.{releases_of}
@@ -153,7 +154,7 @@ fetching x = fetches x.j x.a x.hash1 (low x.f) (is_set x.g) x.h x.i
 abbrev pub looking : Args → Change
 looking x =
     observes x.l
-    (look (height_if (is_set x.a) (low x.b)) (sought_if (is_set x.c) x.hash3) (is_set x.h) x.i (height_if (is_set x.j) (low x.k)))
+    (look (then_some (is_set x.a) (low x.b)) (then_some (is_set x.c) x.hash3) (is_set x.h) x.i (then_some (is_set x.j) (low x.k)))
 
 abbrev pub calls_told : List ℕ → ℕ → Args → List (ℕ × Recorded)
 calls_told ns place x =
@@ -169,9 +170,9 @@ quiet_at ns place x kind = cond (leb 19 kind) (says_asked (query_at x kind)) (pi
 
 abbrev pub calls_letting_go : Args → List (ℕ × Change)
 calls_letting_go x =
-    (5, credits x.h x.hash0 x.e (height_if (is_set x.f) (low x.g)))
+    (5, credits x.h x.hash0 x.e (then_some (is_set x.f) (low x.g)))
     ∷ (8, expires x.a)
-    ∷ (9, requeues x.g x.hash0 (height_if (is_set x.e) (low x.f)))
+    ∷ (9, requeues x.g x.hash0 (then_some (is_set x.e) (low x.f)))
     ∷ (10, releases x.e x.hash0)
     ∷ (11, retires x.b (low x.a))
     ∷ []
@@ -180,10 +181,10 @@ abbrev pub letting_go : List ℕ → ℕ → Args → ℕ → Change
 letting_go ns place x = pick (calls_letting_go x) (retains (row_at 256 ns (on place 1)))
 
 abbrev pub receiving : Args → Change
-receiving x = receives x.h x.hash0 x.e (source_if (is_set x.f) x.g)
+receiving x = receives x.h x.hash0 x.e (then_some (is_set x.f) x.g)
 
 abbrev pub rejecting : Args → Change
-rejecting x = rejects x.g x.hash0 (source_if (is_set x.e) x.f)
+rejecting x = rejects x.g x.hash0 (then_some (is_set x.e) x.f)
 
 -- the others that let go
 abbrev pub lets_go : ℕ → Bool

@@ -1,5 +1,5 @@
 -- What the calls promise, said of the call that a recorded number stands for. Assumes nothing.
-use Rattle.std.specs.Prelude.{◌≡◌, refl, Bool, true, false, ◌||◌, List, [], ℕ, ◌≤◌, ◌<◌, eqb, leb, replicate}
+use Rattle.std.specs.Prelude.{◌≡◌, refl, Bool, true, false, ◌||◌, List, [], ℕ, ◌≤◌, ◌<◌, eqb, leb, replicate, Option, None, Some, Result, Ok, Err}
 use Rattle.std.proofs.Common.{sym, ap, subst, ◌∙◌}
 use borrow.Author.Tests.{eq-eqb, ne_eqb, le-leb, lt-leb}
 use Rattle.model.specs.Lists.{pad}
@@ -7,7 +7,7 @@ use Rattle.model.specs.Queries.{Query, reads, probe_plan}
 use Rattle.model.specs.Refusals.{Change, Call, changes, queries, checks, clears_preferred}
 use Rattle.model.specs.Perform.{Answer, perform}
 use Rattle.model.specs.declared.Plan.{Plan}
-use Rattle.model.specs.declared.Plan.TheVariants.{Refused, NoPlan, Planned}
+use Rattle.model.specs.declared.Refusal.{Refusal}
 use Rattle.plans.specs.Answers.{planned_part, plan_answer_says}
 use Rattle.plans.specs.declared.PlanAnswer.{PlanAnswer}
 use Rattle.flat.specs.Flat.{plan_flat}
@@ -63,10 +63,10 @@ module _ (r : PlanAnswer) (padded : r.hashes ≡ pad 32 0 (planned_part r)) (a :
   is_flat : plan_numbers r.plan r.hashes ≡ plan_flat a
   is_flat = answer_flat r padded ∙ ap plan_flat told
 
-  hashes_of : (p : Plan) (hs : List ℕ) → hs ≡ (plan_numbers p hs).hashes
-  hashes_of (Refused n) hs = refl
-  hashes_of NoPlan hs = refl
-  hashes_of (Planned owner n end) hs = refl
+  hashes_of : (p : Result (Option Plan) Refusal) (hs : List ℕ) → hs ≡ (plan_numbers p hs).hashes
+  hashes_of (Err r) hs = refl
+  hashes_of (Ok None) hs = refl
+  hashes_of (Ok (Some p)) hs = refl
 
   pub plan_told : (kind : ℕ) → kind ≡ 48 → (fields : List ℕ) → fields ≡ plan_row (plan_numbers r.plan r.hashes) → fields ≡ plan_part kind a
   plan_told kind e fields f = rw (eq-eqb kind 48 e) (f ∙ ap plan_row is_flat)

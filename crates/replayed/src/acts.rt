@@ -8,13 +8,13 @@ ghost use Rattle.recorded.specs.Said.{alone};
 ghost use Rattle.replayed.specs.Calls.{confirming, requesting, looking, done_at, quiet_at, letting_go, lets_go, says_received, says_rejected, says_gone, call_at, Performs};
 
 use crate::asks::query;
-use lend::LetGoWords;
-use model::{Accepted, Blocked, Requested};
+use lend::Reported;
+use model::{Blocked, Refusal};
 use recorded::arguments::{args_at, asked_at, confirmed_at, flags_at, height_of, opening_at};
 use recorded::stream::low;
 use recorded::{Args, Said, answers};
 
-fn request(words: &mut [u64], numbers: &[u64], at: u64, a: Args) -> Requested
+fn request(words: &mut [u64], numbers: &[u64], at: u64, a: Args) -> Result<bool, Refusal>
     ensures { (requested_says result ≡ (perform (changes (requesting numbers.now at a)) words.old []).answer)
         × (words.new ≡ (perform (changes (requesting numbers.now at a)) words.old []).words) }
 {
@@ -35,7 +35,7 @@ fn request(words: &mut [u64], numbers: &[u64], at: u64, a: Args) -> Requested
     )
 }
 
-fn confirm(words: &mut [u64], numbers: &[u64], at: u64, a: Args) -> Accepted
+fn confirm(words: &mut [u64], numbers: &[u64], at: u64, a: Args) -> Result<(), Refusal>
     ensures { (accepted_says result ≡ (perform (changes (confirming numbers.now at a)) words.old []).answer)
         × (words.new ≡ (perform (changes (confirming numbers.now at a)) words.old []).words) }
 {
@@ -47,7 +47,13 @@ fn confirm(words: &mut [u64], numbers: &[u64], at: u64, a: Args) -> Accepted
     window::confirm_prefix_probe(words, a.a, &given[..n], &others[..m], a.b)
 }
 
-fn lets_go(words: &mut [u64], numbers: &[u64], kind: u64, at: u64, a: Args) -> LetGoWords
+fn lets_go(
+    words: &mut [u64],
+    numbers: &[u64],
+    kind: u64,
+    at: u64,
+    a: Args,
+) -> Reported<Result<u64, Refusal>>
     ensures { Goes (changes (letting_go numbers.now at a kind)) words.old words.new (let_go_says result.answer) result.places result.gone }
 {
     let h = a.hash0;
@@ -74,7 +80,7 @@ fn receives(words: &mut [u64], a: Args) -> Said
     ensures { Performs (says_received a) words.old words.new result }
 {
     let h = a.hash0;
-    let s = flat::source_of(a.f != 0, a.g);
+    let s = (a.f != 0).then_some(a.g);
     let l = lend::mark_received_from(words, h, a.e, s, a.h);
     let r = l.answer;
     let gone = l.gone;
@@ -89,7 +95,7 @@ fn rejects(words: &mut [u64], a: Args) -> Said
     ensures { Performs (says_rejected a) words.old words.new result }
 {
     let h = a.hash0;
-    let s = flat::source_of(a.e != 0, a.f);
+    let s = (a.e != 0).then_some(a.f);
     let l = lend::reject_delivery(words, h, s, a.g);
     let r = l.answer;
     let gone = l.gone;
@@ -113,19 +119,19 @@ fn releases(words: &mut [u64], numbers: &[u64], kind: u64, at: u64, a: Args) -> 
     }
 }
 
-fn looks(words: &mut [u64], a: Args) -> Blocked
+fn looks(words: &mut [u64], a: Args) -> Result<Blocked, Refusal>
     ensures { (blocked_says result ≡ (perform (changes (looking a)) words.old []).answer)
         × (words.new ≡ (perform (changes (looking a)) words.old []).words) }
 {
     let h = a.hash3;
     let next = height_of(a.a, a.b);
-    let frontier = flat::sought_of(a.c != 0, h);
+    let frontier = (a.c != 0).then_some(h);
     let highest = height_of(a.j, a.k);
     window::observe_blocked(words, next, frontier, a.h != 0, a.i, highest, a.l)
 }
 
 // The calls that are done or refused.
-fn accepted(words: &mut [u64], numbers: &[u64], kind: u64, at: u64, a: Args) -> Accepted
+fn accepted(words: &mut [u64], numbers: &[u64], kind: u64, at: u64, a: Args) -> Result<(), Refusal>
     ensures { (accepted_says result ≡ (perform (done_at numbers.now at a kind) words.old []).answer)
         × (words.new ≡ (perform (done_at numbers.now at a kind) words.old []).words) }
 {
@@ -154,7 +160,7 @@ fn changes(words: &mut [u64], numbers: &[u64], kind: u64, at: u64, a: Args) -> [
         return query(words, kind, a);
     }
     match kind {
-        2 => answers::requested(request(words, numbers, at, a)),
+        2 => answers::truth(request(words, numbers, at, a)),
         3 => {
             let h = a.hash1;
             answers::fetch(window::mark_owned_fetch(

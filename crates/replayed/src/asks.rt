@@ -7,10 +7,10 @@ ghost use Rattle.model.specs.Perform.{perform};
 ghost use Rattle.model.specs.Says.{number_says, truth_says, pair_says, perhaps_says, perhaps_pair_says};
 ghost use Rattle.replayed.specs.Calls.{number_query, truth_query, pair_query, perhaps_query, perhaps_pair_query, plan_part, query_at};
 
-use model::{Number, Pair, Perhaps, PerhapsPair, Truth};
+use model::Refusal;
 use recorded::{Args, answers};
 
-fn number(words: &[u64], kind: u64, a: Args) -> Number
+fn number(words: &[u64], kind: u64, a: Args) -> Result<u64, Refusal>
     ensures { number_says result ≡ (perform (queries (number_query a kind)) words.now []).answer }
 {
     match kind {
@@ -29,7 +29,7 @@ fn number(words: &[u64], kind: u64, a: Args) -> Number
     }
 }
 
-fn truth(words: &[u64], kind: u64, a: Args) -> Truth
+fn truth(words: &[u64], kind: u64, a: Args) -> Result<bool, Refusal>
     ensures { truth_says result ≡ (perform (queries (truth_query a kind)) words.now []).answer }
 {
     let h = a.hash0;
@@ -46,7 +46,7 @@ fn truth(words: &[u64], kind: u64, a: Args) -> Truth
     }
 }
 
-fn pair(words: &[u64], kind: u64, a: Args) -> Pair
+fn pair(words: &[u64], kind: u64, a: Args) -> Result<(u64, u64), Refusal>
     ensures { pair_says result ≡ (perform (queries (pair_query a kind)) words.now []).answer }
 {
     match kind {
@@ -55,7 +55,7 @@ fn pair(words: &[u64], kind: u64, a: Args) -> Pair
     }
 }
 
-fn perhaps_pair(words: &[u64], kind: u64, a: Args) -> PerhapsPair
+fn perhaps_pair(words: &[u64], kind: u64, a: Args) -> Result<Option<(u64, u64)>, Refusal>
     ensures { perhaps_pair_says result ≡ (perform (queries (perhaps_pair_query a kind)) words.now []).answer }
 {
     match kind {
@@ -64,7 +64,7 @@ fn perhaps_pair(words: &[u64], kind: u64, a: Args) -> PerhapsPair
     }
 }
 
-fn perhaps(words: &[u64], kind: u64, a: Args) -> Perhaps
+fn perhaps(words: &[u64], kind: u64, a: Args) -> Result<Option<u64>, Refusal>
     ensures { perhaps_says result ≡ (perform (queries (perhaps_query a kind)) words.now []).answer }
 {
     let h = a.hash0;

@@ -34,10 +34,8 @@ pub fn write_report(report: &mut [Release], gone: &[u64], n: usize) -> usize
     requires { (n ≤ length report.old) × (9 * n ≤ length gone.now) }
     ensures { (result ≡ n) × (report.new ≡ releases_of n gone.now ++ drop n report.old) }
 {
-    let mut i = 0;
-    while i < n {
+    for i in 0..n {
         report[i] = release_at(gone, i);
-        i += 1;
     }
-    i
+    n
 }

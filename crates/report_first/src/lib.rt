@@ -6,16 +6,15 @@ ghost use Rattle.report_words.specs.Report.{release_from, releases_of};
 
 use model::sizes;
 
-// All words move nine places up, from the end down, so that it is one move of memory.
+// All words move nine places up, and the last nine fall off.
 fn make_room(gone: &mut [u64])
     requires { length gone.old ≡ 2304 }
     ensures { (k : ℕ) → k < 2295 → get_or gone.new (9 + k) 0 ≡ get_or gone.old k 0 }
 {
-    let mut i = sizes::REPORT_WORDS;
-    while sizes::RELEASE_WORDS < i {
-        i -= 1;
-        gone[i] = gone[i - sizes::RELEASE_WORDS];
-    }
+    gone.copy_within(
+        ..sizes::REPORT_WORDS - sizes::RELEASE_WORDS,
+        sizes::RELEASE_WORDS,
+    );
 }
 
 // The nine words of a release before all others.

@@ -44,16 +44,12 @@ pub fn gather(words: &[u64], count: usize, marks: &[u64], gone: &mut [u64]) -> u
     requires { (length words.now ≡ 4096) × ((count ≤ 256) × ((length marks.now ≡ 256) × (length gone.old ≡ 2304))) }
     ensures { (result ≤ count) × (releases_of result gone.new ≡ gone_by marks.now (take count (decode words.now).entries)) }
 {
-    let mut i = 0;
     let mut n = 0;
-    while i < count {
+    for i in 0..count {
         let m = marks[i];
-        if m == 0 {
-            i += 1;
-        } else {
+        if m != 0 {
             let e = records::entry_of(words, i);
             put_release(gone, n, e, m);
-            i += 1;
             n += 1;
         }
     }
@@ -75,8 +71,7 @@ pub fn totals_after(gone: &[u64], n: usize, total: u64, frontier: u64) -> Totals
     ensures { (result.total ≡ total_after (releases_of n gone.now) total) × (result.frontier ≡ frontier_after (releases_of n gone.now) frontier) }
 {
     let mut t = Totals { total, frontier };
-    let mut i = 0;
-    while i < n {
+    for i in 0..n {
         let a = sizes::RELEASE_WORDS * i;
         t = less_one(
             t,
@@ -84,7 +79,6 @@ pub fn totals_after(gone: &[u64], n: usize, total: u64, frontier: u64) -> Totals
             gone[a + of_release::HEIGHT],
             gone[a + of_release::REASON],
         );
-        i += 1;
     }
     t
 }
@@ -110,12 +104,5 @@ pub fn is_among(gone: &[u64], n: usize, owner: u64, h: Hash) -> bool
     requires { (length gone.now ≡ 2304) × (n ≤ 256) }
     ensures { result ≡ any (is_entry owner h) (releases_of n gone.now) }
 {
-    let mut found = false;
-    let mut i = 0;
-    while i < n {
-        let hit = is_entry(gone, i, owner, h);
-        found = found | hit;
-        i += 1;
-    }
-    found
+    (0..n).any(|i| is_entry(gone, i, owner, h))
 }

@@ -1,5 +1,5 @@
 -- What a request answers and leaves. Assumes nothing.
-use Rattle.std.specs.Prelude.{◌≡◌, Bool, cond, List, [], ◌∷◌, ℕ, suc, ◌+◌, ◌≤◌, ◌<◌, length, eqb}
+use Rattle.std.specs.Prelude.{◌≡◌, Bool, cond, List, [], ◌∷◌, ℕ, suc, ◌+◌, ◌≤◌, ◌<◌, length, eqb, Ok, Err}
 use Rattle.std.proofs.Math.Path.{refl}
 use Rattle.std.proofs.Common.{sym, ap, subst, ◌∙◌, arith, le-leb, ne_eqb}
 use Rattle.std.proofs.Math.Bool.{true, false}
@@ -14,10 +14,8 @@ use Rattle.model.specs.Perform.{Answer, refused, says}
 use Rattle.model.specs.Refusals.{listed_once, request_refusal}
 use Rattle.model.specs.Lists.{all, any}
 use Rattle.model.specs.declared.Hash.{Hash}
-use Rattle.model.specs.declared.Front.{Front}
 use Rattle.laws.specs.Whole.{Whole, Holds, holds_whole}
 use Rattle.records.specs.Places.{Finds, here_found, free_found}
-use Rattle.records.specs.declared.Place.TheVariants.{Here, Free}
 use Rattle.requests.specs.Asks.{hash_in, ask_at}
 use Rattle.requests.specs.Rows.{one_ask}
 use Rattle.request_calls.specs.Listed.{none_pending, list_pending, list_many, list_good}
@@ -52,13 +50,13 @@ module _ (hs ts : List ℕ) (one : length (asks_in hs ts) ≡ 1) (w : Window) (u
   once_is = rw (one_ask hs ts one) refl
 
   module _ (h : Hash) (e : h ≡ hash_in hs 0) (i : ℕ) where
-    pub one_there : Finds h w.queue.pending (Here i) → 7 ≡ request_refusal (asks_in hs ts) w
+    pub one_there : Finds h w.queue.pending (Ok i) → 7 ≡ request_refusal (asks_in hs ts) w
     one_there f =
         let there : is_there (found (hash_in hs 0) w.queue.pending) ≡ true =
         ap (λ (g : Hash). is_there (found g w.queue.pending)) (sym e) ∙ ap is_there (here_found h w.queue.pending i u f).0 in
         list_pending (asks_in hs ts) w (pending_is true there)
 
-    module _ (f : Finds h w.queue.pending (Free i)) where
+    module _ (f : Finds h w.queue.pending (Err i)) where
       free : none_pending (asks_in hs ts) w.queue.pending ≡ true
       free = pending_is false (ap (λ (g : Hash). is_there (found g w.queue.pending)) (sym e) ∙ ap is_there (free_found h w.queue.pending i u f).0)
 

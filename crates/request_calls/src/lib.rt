@@ -4,7 +4,7 @@
 
 ghost use Rattle.std.specs.Prelude.{◌≡◌, true, ◌+◌, ◌≤◌, length, drop};
 ghost use Rattle.model.specs.Numbers.{max_seat};
-ghost use Rattle.model.specs.Says.{requested_says};
+ghost use Rattle.model.specs.Says.{requested_says, refusal_number};
 ghost use Rattle.model.specs.Calls.{asks_in};
 ghost use Rattle.model.specs.Layout.{window_of, rising};
 ghost use Rattle.model.specs.Refusals.{listed_once, request_refusal};
@@ -13,8 +13,7 @@ ghost use Rattle.laws.specs.Whole.{Whole, Holds};
 ghost use Rattle.request_calls.specs.Answer.{tried, request_answer, request_window};
 ghost use Rattle.request_calls.specs.Listed.{listed, none_pending};
 
-use model::{Hash, Requested, sizes};
-use records::Place;
+use model::{Hash, Refusal, sizes};
 
 // ---- its list
 
@@ -23,13 +22,11 @@ fn listed_from(hashes: &[u64], heights: &[u32], from: usize, h: Hash) -> bool
     ensures { result ≡ listed h (drop from (asks_in hashes.now heights.now)) }
 {
     let n = requests::asked(hashes.len(), heights.len());
-    let mut i = from;
-    while i < n {
+    for i in from..n {
         let g = requests::hash_in(hashes, 4 * i);
         if hash::equal(g, h) {
             return true;
         }
-        i += 1;
     }
     false
 }
@@ -39,13 +36,11 @@ fn listed_once(hashes: &[u64], heights: &[u32]) -> bool
     ensures { result ≡ listed_once (asks_in hashes.now heights.now) }
 {
     let n = requests::asked(hashes.len(), heights.len());
-    let mut i = 0;
-    while i < n {
+    for i in 0..n {
         let h = requests::hash_in(hashes, 4 * i);
         if listed_from(hashes, heights, i + 1, h) {
             return false;
         }
-        i += 1;
     }
     true
 }
@@ -56,35 +51,33 @@ fn none_pending(words: &[u64], hashes: &[u64], heights: &[u32]) -> bool
     ensures { result ≡ none_pending (asks_in hashes.now heights.now) (window_of words.now).queue.pending }
 {
     let n = requests::asked(hashes.len(), heights.len());
-    let mut i = 0;
-    while i < n {
+    for i in 0..n {
         let h = requests::hash_in(hashes, 4 * i);
         if queries::contains_pending(words, h) {
             return false;
         }
-        i += 1;
     }
     true
 }
 
-// `request_refusal`: 7, then 8, or 0 for none. The tests take a time that grows with the square of the list's length. The sum of pending and
+// `request_refusal`: 7, then 8. The tests take a time that grows with the square of the list's length. The sum of pending and
 // listed is never made.
-fn request_refusal(words: &[u64], hashes: &[u64], heights: &[u32]) -> u64
+fn request_refusal(words: &[u64], hashes: &[u64], heights: &[u32]) -> Result<(), Refusal>
     requires { Whole words.now × (rising (window_of words.now).queue.pending ≡ true) }
-    ensures { result ≡ request_refusal (asks_in hashes.now heights.now) (window_of words.now) }
+    ensures { refusal_number result ≡ request_refusal (asks_in hashes.now heights.now) (window_of words.now) }
 {
     if !none_pending(words, hashes, heights) {
-        return 7;
+        return Err(Refusal::Listed);
     }
     if !listed_once(hashes, heights) {
-        return 7;
+        return Err(Refusal::Listed);
     }
     let n = requests::asked(hashes.len(), heights.len());
     let count = state_queue::pending_count(words);
     if n > sizes::PLACES - count {
-        return 8;
+        return Err(Refusal::Many);
     }
-    0
+    Ok(())
 }
 
 // ---- refused by its list, or done: the answer is `request_refusal`, and the words are left as `tried` says
@@ -97,17 +90,14 @@ fn request_each(
     owner: u64,
     next: u32,
     clock: u64,
-) -> u64
+) -> Result<(), Refusal>
     requires { Whole words.old × (Sound clock (window_of words.old) × (owner ≤ max_seat)) }
-    ensures { (result ≡ request_refusal (asks_in hashes.now heights.now) (window_of words.old))
-        × Holds (tried result (asks_in hashes.now heights.now) owner next clock (window_of words.old)) words.new }
+    ensures { (refusal_number result ≡ request_refusal (asks_in hashes.now heights.now) (window_of words.old))
+        × Holds (tried (refusal_number result) (asks_in hashes.now heights.now) owner next clock (window_of words.old)) words.new }
 {
-    let k = request_refusal(words, hashes, heights);
-    if k != 0 {
-        return k;
-    }
+    request_refusal(words, hashes, heights)?;
     requests::mark_requested(words, hashes, heights, owner, next, clock);
-    0
+    Ok(())
 }
 
 // A list of one: its hash is looked up once, and its entry goes in where that ended.
@@ -119,22 +109,22 @@ fn request_one(
     owner: u64,
     next: u32,
     clock: u64,
-) -> u64
+) -> Result<(), Refusal>
     requires { (Whole words.old × (Sound clock (window_of words.old) × (owner ≤ max_seat)))
         × ((m ≡ length (window_of words.old).queue.pending) × (length (asks_in hashes.now heights.now) ≡ 1)) }
-    ensures { (result ≡ request_refusal (asks_in hashes.now heights.now) (window_of words.old))
-        × Holds (tried result (asks_in hashes.now heights.now) owner next clock (window_of words.old)) words.new }
+    ensures { (refusal_number result ≡ request_refusal (asks_in hashes.now heights.now) (window_of words.old))
+        × Holds (tried (refusal_number result) (asks_in hashes.now heights.now) owner next clock (window_of words.old)) words.new }
 {
     let h = requests::hash_in(hashes, 0);
     let p = state_queue::find(words, h);
     match p {
-        Place::Here(_) => 7,
-        Place::Free(at) => {
+        Ok(_) => Err(Refusal::Listed),
+        Err(at) => {
             if m >= sizes::PLACES {
-                return 8;
+                return Err(Refusal::Many);
             }
             requests::mark_found(words, hashes, heights, at, owner, next, clock);
-            0
+            Ok(())
         }
     }
 }
@@ -149,16 +139,16 @@ fn request_in_order(
     owner: u64,
     next: u32,
     clock: u64,
-) -> u64
+) -> Result<(), Refusal>
     requires { (Whole words.old × (Sound clock (window_of words.old) × (owner ≤ max_seat)))
         × ((m ≡ length (window_of words.old).queue.pending) × ((n ≡ length (asks_in hashes.now heights.now)) × (m + n ≤ 256))) }
-    ensures { (result ≡ request_refusal (asks_in hashes.now heights.now) (window_of words.old))
-        × Holds (tried result (asks_in hashes.now heights.now) owner next clock (window_of words.old)) words.new }
+    ensures { (refusal_number result ≡ request_refusal (asks_in hashes.now heights.now) (window_of words.old))
+        × Holds (tried (refusal_number result) (asks_in hashes.now heights.now) owner next clock (window_of words.old)) words.new }
 {
     let mut order: [u64; sizes::PLACES] = [0; sizes::PLACES];
     if request_order::find_order(&mut order, words, hashes, m, n) {
         request_many::mark_in_order(words, hashes, heights, &order, m, n, owner, next, clock);
-        return 0;
+        return Ok(());
     }
     request_each(words, hashes, heights, owner, next, clock)
 }
@@ -170,10 +160,10 @@ fn request_list(
     owner: u64,
     next: u32,
     clock: u64,
-) -> u64
+) -> Result<(), Refusal>
     requires { Whole words.old × (Sound clock (window_of words.old) × (owner ≤ max_seat)) }
-    ensures { (result ≡ request_refusal (asks_in hashes.now heights.now) (window_of words.old))
-        × Holds (tried result (asks_in hashes.now heights.now) owner next clock (window_of words.old)) words.new }
+    ensures { (refusal_number result ≡ request_refusal (asks_in hashes.now heights.now) (window_of words.old))
+        × Holds (tried (refusal_number result) (asks_in hashes.now heights.now) owner next clock (window_of words.old)) words.new }
 {
     let n = requests::asked(hashes.len(), heights.len());
     let m = state_queue::pending_count(words);
@@ -198,19 +188,13 @@ pub fn request(
     byte_headroom: u64,
     count_headroom: u64,
     clock: u64,
-) -> Requested
+) -> Result<bool, Refusal>
     requires { Whole words.old × (Sound clock (window_of words.old) × (owner ≤ max_seat)) }
     ensures { (requested_says result ≡ request_answer byte_headroom count_headroom (asks_in hashes.now heights.now) owner next clock (window_of words.old))
         × Holds (request_window (asks_in hashes.now heights.now) owner next clock (window_of words.old)) words.new }
 {
-    let k = request_list(words, hashes, heights, owner, next, clock);
-    if k != 0 {
-        return Requested::Refused(k);
-    }
+    request_list(words, hashes, heights, owner, next, clock)?;
     let room = queries::has_request_capacity(words, byte_headroom, count_headroom);
     state::set_clock(words, clock);
-    if room {
-        return Requested::Room;
-    }
-    Requested::Full
+    Ok(room)
 }

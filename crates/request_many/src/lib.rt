@@ -49,13 +49,11 @@ fn put_row(words: &mut [u64], at: usize, e: Entry)
     requires { (length words.old ≡ 4096) × (at < 256) }
     ensures { decode words.new ≡ with_entries (set (decode words.old).entries at e) (decode words.old) }
 {
-    let mut k = 0;
-    while k < sizes::COLUMNS {
+    for k in 0..sizes::COLUMNS {
         let a = sizes::PLACES * k;
         let z = a + sizes::PLACES;
         let v = records::field_of(e, k);
         column::store(&mut words[a..z], at, v);
-        k += 1;
     }
 }
 
@@ -74,9 +72,7 @@ fn fill(
     requires { Fillable words.old hashes.now heights.now order.now m total }
     ensures { decode words.new ≡ with_entries (pad 256 blank (in_order (take m (decode words.old).entries) hashes.now heights.now owner clock mean total order.now)) (decode words.old) }
 {
-    let mut j = total;
-    while 0 < j {
-        j -= 1;
+    for j in (0..total).rev() {
         let row = order[j] as usize;
         let e = row_entry(words, hashes, heights, m, row, owner, clock, mean);
         put_row(words, j, e);

@@ -1,5 +1,5 @@
 -- A request's entries put one after the other: each finds its hash absent and room for one more. Assumes nothing.
-use Rattle.std.specs.Prelude.{◌≡◌, true, List, [], ◌∷◌, ℕ, zero, suc, ◌+◌, ◌*◌, ◌≤◌, ◌<◌, length, get_or, drop}
+use Rattle.std.specs.Prelude.{◌≡◌, true, List, [], ◌∷◌, ℕ, zero, suc, ◌+◌, ◌*◌, ◌≤◌, ◌<◌, length, get_or, drop, Result, Ok, Err, None, Some, Option}
 use Rattle.std.proofs.Math.Path.{refl, ap, subst}
 use Rattle.std.proofs.Common.{sym, ◌∙◌, not-suc-le-zero, le_of_suc-le-suc, add-one, arith}
 use Rattle.model.specs.Numbers.{max_estimate}
@@ -11,8 +11,6 @@ use Rattle.model.specs.Window.{Window, Queue, with_queue}
 use Rattle.model.specs.Calls.{Ask, asks_in, put, puts}
 use Rattle.model.specs.declared.Hash.{Hash}
 use Rattle.model.specs.declared.Entry.{Entry}
-use Rattle.model.specs.declared.Front.{Front}
-use Rattle.model.specs.declared.Front.TheVariants.{Nothing, At}
 use Rattle.laws.specs.Bag.{one, weigh_one, pick_weigh}
 use Rattle.laws.specs.Entries.{on, on_self, on_other, with_hash, Rising, insert_pick, insert_rising, Finding, missing, at, found_is, Each}
 use Rattle.laws.specs.RequestsKept.{Free, Once}
@@ -22,24 +20,22 @@ use Rattle.laws.specs.Whole.{Holds}
 use Rattle.rules.specs.Rows.{by_value}
 use Rattle.state_queue.specs.Steps.{entries_put, put_is}
 use Rattle.records.specs.Places.{Finds, here_found}
-use Rattle.records.specs.declared.Place.{Place}
-use Rattle.records.specs.declared.Place.TheVariants as place
 use Rattle.requests.specs.Asks.{hash_in, ask_at, asks_drop}
 
 -- ---- the place of a hash that is absent
 
 -- where a search points, whether the hash is there or not
-abbrev pub place_of : Place → ℕ
-place_of (place.Here r) = r
-place_of (place.Free r) = r
+abbrev pub place_of : Result ℕ ℕ → ℕ
+place_of (Ok r) = r
+place_of (Err r) = r
 
-none_found : (h : Hash) (l : List Entry) {f : Front} {e : Entry} → with_hash (key h) l ≡ 0 → Finding h l f → f ≡ At e → ⊥
+none_found : (h : Hash) (l : List Entry) {f : Option Entry} {e : Entry} → with_hash (key h) l ≡ 0 → Finding h l f → f ≡ Some e → ⊥
 none_found h l z (missing n) q = let k : ◌≡◌ {A = ℕ} 0 1 = cc in omega arith
 none_found h l z (at {e = x} k p) q = omega (arith, pick_weigh (on (key h) one) p, on_self (key h) one x k)
 
-pub absent_free : (h : Hash) (l : List Entry) (p : Place) → rising l ≡ true → with_hash (key h) l ≡ 0 → Finds h l p → Finds h l (place.Free (place_of p))
-absent_free h l (place.Here r) u z f = absurd (none_found h l z (found_is h l) (here_found h l r u f).0)
-absent_free h l (place.Free r) u z f = f
+pub absent_free : (h : Hash) (l : List Entry) (p : Result ℕ ℕ) → rising l ≡ true → with_hash (key h) l ≡ 0 → Finds h l p → Finds h l (Err (place_of p))
+absent_free h l (Ok r) u z f = absurd (none_found h l z (found_is h l) (here_found h l r u f).0)
+absent_free h l (Err r) u z f = f
 
 -- ---- what one entry more asks
 
@@ -50,7 +46,7 @@ pub record Takes (h : Hash) (w : Window) : Type 0 where
   pub bytes : w.queue.total + w.mean ≤ 18446744073709551615
 
 -- the entry goes in where the search ended
-pub put_so : (w : Window) (ws : List ℕ) (k : ℕ) (e e' : Entry) → e ≡ e' → Takes e'.hash w → Finds e'.hash w.queue.pending (place.Free k)
+pub put_so : (w : Window) (ws : List ℕ) (k : ℕ) (e e' : Entry) → e ≡ e' → Takes e'.hash w → Finds e'.hash w.queue.pending (Err k)
     → Holds (entries_put (w.queue.total + e.estimate) (insert_at k e w.queue.pending) w) ws → Holds (with_queue (put e' w.queue) w) ws
 put_so w ws k e e' q t f h =
     let l = w.queue.pending in

@@ -1,5 +1,5 @@
 -- `mark_requested` as the row of steps that the code takes. Assumes nothing.
-use Rattle.std.specs.Prelude.{◌≡◌, refl, Bool, true, false, cond, not, ◌&&◌, ℕ, zero, suc, length, get_or, drop, eqb}
+use Rattle.std.specs.Prelude.{◌≡◌, refl, Bool, true, false, cond, not, ◌&&◌, ℕ, zero, suc, length, get_or, drop, eqb, None}
 use Rattle.std.proofs.Common.{sym, ◌∙◌, inl, inr, arith}
 use Rattle.std.proofs.Math.Path.{ap}
 use mathlib.Core.List.{List, [], ◌∷◌}
@@ -9,7 +9,6 @@ use Rattle.model.specs.Window.{Window, with_queue, with_high, with_frontier, wit
 use Rattle.model.specs.Races.{is_empty}
 use Rattle.model.specs.Records.{new_entry}
 use Rattle.model.specs.Calls.{Ask, asks_in, put, puts, raised, started, noted, mark_requested}
-use Rattle.model.specs.declared.Source.TheVariants.{Missing}
 use Rattle.model.specs.declared.Hash.{Hash}
 use Rattle.laws.specs.Numbers.{both}
 use Rattle.requests.specs.Asks.{hash_in, ask_at, asks_drop}
@@ -21,7 +20,7 @@ empty_length (x ∷ l) = sym (eqb-suc-zero (length l))
 
 -- the attempted owner goes where nothing is pending and n are asked for
 abbrev pub forgotten : ℕ → Window → Window
-forgotten n w = cond (eqb (length w.queue.pending) 0 && not (eqb n 0)) (with_attempted Missing w) w
+forgotten n w = cond (eqb (length w.queue.pending) 0 && not (eqb n 0)) (with_attempted None w) w
 
 -- queue and mean are as they were
 pub forgotten_same : (n : ℕ) (w : Window) → ((forgotten n w).queue ≡ w.queue) × ((forgotten n w).mean ≡ w.mean)
@@ -57,7 +56,7 @@ unfolding mark_requested
 requested_row asks owner next now w =
     let same : (eqb (length w.queue.pending) 0 && not (eqb (length asks) 0)) ≡ (is_empty w.queue.pending && not (is_empty asks)) =
     λ i. sym (empty_length w.queue.pending) i && not (sym (empty_length asks) i) in
-    row asks owner next now (forgotten (length asks) w) ∙ ap (λ (b : Bool). told asks owner next now (cond b (with_attempted Missing w) w)) same
+    row asks owner next now (forgotten (length asks) w) ∙ ap (λ (b : Bool). told asks owner next now (cond b (with_attempted None w) w)) same
 
 -- ---- a list of one
 

@@ -1,7 +1,7 @@
 // SPECIFICATION 7.2: a request's entries go in, in words that hold a window. Contracts as in `state`; the last clock is not set here.
 #![tactic(auto)]
 
-ghost use Rattle.std.specs.Prelude.{◌≡◌, ◌+◌, ◌/◌, ◌≤◌, length};
+ghost use Rattle.std.specs.Prelude.{◌≡◌, ◌+◌, ◌/◌, ◌≤◌, length, Err};
 ghost use Rattle.model.specs.Numbers.{lesser, max_clock, max_estimate, max_seat};
 ghost use Rattle.model.specs.Records.{new_entry};
 ghost use Rattle.model.specs.Calls.{asks_in, put, mark_requested};
@@ -11,13 +11,11 @@ ghost use Rattle.laws.specs.Kept.{Requestable};
 ghost use Rattle.laws.specs.Sound.{Sound};
 ghost use Rattle.laws.specs.Whole.{Whole, Holds};
 ghost use Rattle.records.specs.Places.{Finds};
-ghost use Rattle.records.specs.declared.Place.TheVariants.{Free};
 ghost use Rattle.requests.specs.Asks.{hash_in};
 ghost use Rattle.requests.specs.Puts.{place_of, Takes, Ready};
 ghost use Rattle.requests.specs.Rows.{forgotten, waits, risen, closed, filled};
 
-use model::{Entry, Hash, Source};
-use records::Place;
+use model::{Entry, Hash};
 
 // ---- one entry
 
@@ -35,18 +33,17 @@ pub fn new_entry(hash: Hash, owner: u64, clock: u64, height: u64, estimate: u64)
 }
 
 // `place_of`
-fn place_of(p: Place) -> usize
+fn place_of(p: Result<usize, usize>) -> usize
     ensures { result ≡ place_of p }
 {
     match p {
-        Place::Here(at) => at,
-        Place::Free(at) => at,
+        Ok(at) | Err(at) => at,
     }
 }
 
 // `put` of an entry whose hash is absent, at the place where a search for it ended; its estimate is the mean.
 fn put_found(words: &mut [u64], at: usize, h: Hash, owner: u64, height: u64, clock: u64)
-    requires { Whole words.old × (Takes h (window_of words.old) × Finds h (window_of words.old).queue.pending (Free at)) }
+    requires { Whole words.old × (Takes h (window_of words.old) × Finds h (window_of words.old).queue.pending (Err at)) }
     ensures { Holds (with_queue (put (new_entry h owner clock height (window_of words.old).mean) (window_of words.old).queue) (window_of words.old)) words.new }
 {
     let mean = state::get_mean(words);
@@ -95,12 +92,10 @@ fn put_all(words: &mut [u64], hashes: &[u64], heights: &[u32], n: usize, owner: 
     requires { Whole words.old × (((window_of words.old).mean ≤ max_estimate) × (Ready (asks_in hashes.now heights.now) (window_of words.old).queue × (n ≡ length (asks_in hashes.now heights.now)))) }
     ensures { Holds (filled (asks_in hashes.now heights.now) owner clock (window_of words.old)) words.new }
 {
-    let mut i = 0;
-    while i < n {
+    for i in 0..n {
         let h = hash_in(hashes, 4 * i);
         let height = heights[i] as u64;
         put_one(words, h, owner, height, clock);
-        i += 1;
     }
 }
 
@@ -113,7 +108,7 @@ pub fn forget_attempted(words: &mut [u64], n: usize)
 {
     let count = state_queue::pending_count(words);
     if (count == 0) & (n != 0) {
-        state::set_attempted(words, Source::Missing);
+        state::set_attempted(words, None);
     }
 }
 
@@ -182,7 +177,7 @@ pub fn mark_found(
     clock: u64,
 )
     requires { (Whole words.old × (Sound clock (window_of words.old) × (Requestable (asks_in hashes.now heights.now) (window_of words.old) × (owner ≤ max_seat))))
-        × ((length (asks_in hashes.now heights.now) ≡ 1) × Finds (hash_in hashes.now 0) (window_of words.old).queue.pending (Free at)) }
+        × ((length (asks_in hashes.now heights.now) ≡ 1) × Finds (hash_in hashes.now 0) (window_of words.old).queue.pending (Err at)) }
     ensures { Holds (mark_requested (asks_in hashes.now heights.now) owner next clock (window_of words.old)) words.new }
 {
     let h = hash_in(hashes, 0);

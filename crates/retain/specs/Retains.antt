@@ -1,5 +1,5 @@
 -- Whole seats dropped, on words that hold a window. Assumes nothing.
-use Rattle.std.specs.Prelude.{◌≡◌, refl, Bool, true, false, cond, not, ◌&&◌, ◌||◌, List, [], ◌∷◌, map, ℕ, zero, suc, ◌+◌, ◌≤◌, ◌<◌, length, take, get_or, eqb, ltb, leb}
+use Rattle.std.specs.Prelude.{◌≡◌, refl, Bool, true, false, cond, not, ◌&&◌, ◌||◌, List, [], ◌∷◌, map, ℕ, zero, suc, ◌+◌, ◌≤◌, ◌<◌, length, take, get_or, eqb, ltb, leb, None, Some, Option}
 use Rattle.std.proofs.Common.{sym, ◌∙◌, inl, inr, arith, lt-ltb, le-ltb, leb-true, leb-false}
 use Rattle.std.proofs.Math.Path.{ap, subst}
 use Rattle.std.proofs.Math.ListN.{get_or-eq_default}
@@ -7,15 +7,12 @@ use Rattle.model.specs.Numbers.{max_clock, max_seat, present}
 use Rattle.model.specs.Lists.{count}
 use Rattle.model.specs.Seats.{keep_seats}
 use Rattle.model.specs.LettingGo.{extract, lost_reason, flagged, observation_kept, seats_kept, retain_peer_assignments, cold_kept, peer_kept, probe_kept, roles_kept, retain_owned_by}
-use Rattle.model.specs.Window.{Window, Step, queue, with_queue, with_observation, with_cold, with_preferred, with_attempted, with_probe, without_probe}
+use Rattle.model.specs.Window.{Window, Step, queue, with_queue, with_observation, with_cold, with_preferred, with_attempted, with_probe, without_probe, probing}
 use Rattle.model.specs.Layout.{window_of, source_word}
 use Rattle.model.specs.declared.Entry.{Entry}
 use Rattle.model.specs.declared.ColdFront.{ColdFront}
 use Rattle.model.specs.declared.ColdFront.TheVariants.{Idle, Waiting, Racing}
-use Rattle.model.specs.declared.Source.{Source}
-use Rattle.model.specs.declared.Source.TheVariants.{Missing, From}
-use Rattle.model.specs.declared.Probe.{Probe}
-use Rattle.model.specs.declared.Probe.TheVariants.{NoProbe, Probing}
+use Rattle.model.specs.declared.PrefixProbe.{PrefixProbe}
 use Rattle.model.specs.declared.Observation.{Observation}
 use Rattle.laws.specs.Numbers.{both, and_left, and_right}
 use Rattle.laws.specs.Sound.{Sound, SoundCold, SoundSource}
@@ -36,9 +33,9 @@ cold_written c Idle h k = tt
 cold_written c (Waiting owner x since) h k = omega arith
 cold_written c (Racing owner alternate x) h k = tt
 
-source_written : (x : Source) → SoundSource x → source_word x ≤ 256
-source_written Missing k = omega arith
-source_written (From s) k = omega arith
+source_written : (x : Option ℕ) → SoundSource x → source_word x ≤ 256
+source_written None k = omega arith
+source_written (Some s) k = omega arith
 
 pub sound_roles : (c : ℕ) (w : Window) → Sound c w → Roles w
 sound_roles c w g = record {
@@ -59,9 +56,9 @@ cold_kept_fits owns Idle k = k
 cold_kept_fits owns (Waiting owner h since) k = elim (both (owns owner)) [ inl q ↦ rw q k | inr q ↦ rw q tt ]
 cold_kept_fits owns (Racing owner alternate h) k = elim (both (owns owner && owns alternate)) [ inl q ↦ rw q tt | inr q ↦ rw q tt ]
 
-pub peer_kept_fits : (owns : ℕ → Bool) (x : Source) → source_word x ≤ 256 → source_word (peer_kept owns x) ≤ 256
-peer_kept_fits owns Missing k = k
-peer_kept_fits owns (From s) k = elim (both (owns s)) [ inl q ↦ rw q k | inr q ↦ rw q (omega arith) ]
+pub peer_kept_fits : (owns : ℕ → Bool) (x : Option ℕ) → source_word x ≤ 256 → source_word (peer_kept owns x) ≤ 256
+peer_kept_fits owns None k = k
+peer_kept_fits owns (Some s) k = elim (both (owns s)) [ inl q ↦ rw q k | inr q ↦ rw q (omega arith) ]
 
 -- ---- entries, seats, observation
 
@@ -101,10 +98,10 @@ module _ (fs : List ℕ) (ws : List ℕ) where
   rs = keep_seats (flagged fs) 0 (window_of ws).races.racers
 
   -- without a probe, nothing
-  pub probe_none : (p : Probe) → p ≡ w.races.probe → p ≡ NoProbe → Holds w ws → Holds (probe_kept owns w.races.probe rs w) ws
-  probe_none p e z h = subst (λ (q : Probe). Holds (probe_kept owns q rs w) ws) (sym z ∙ e) h
+  pub probe_none : (p : Option PrefixProbe) → p ≡ w.races.probe → p ≡ None → Holds w ws → Holds (probe_kept owns w.races.probe rs w) ws
+  probe_none p e z h = subst (λ (q : Option PrefixProbe). Holds (probe_kept owns q rs w) ws) (sym z ∙ e) h
 
-  module _ (owner accepted started : ℕ) (p : Probe) (e : p ≡ w.races.probe) (z : p ≡ Probing owner accepted started) (owned : Bool) (o : owned ≡ owns owner) (n : ℕ) (c : n ≡ count present rs) where
+  module _ (owner accepted started : ℕ) (p : Option PrefixProbe) (e : p ≡ w.races.probe) (z : p ≡ probing owner accepted started) (owned : Bool) (o : owned ≡ owns owner) (n : ℕ) (c : n ≡ count present rs) where
     -- one whose owner is kept, and two racers or more
     pub probe_stays : (ws₁ : List ℕ) → (owned && leb 2 n) ≡ true → Holds (with_probe w.races.probe w.races.planned rs w) ws₁ → Holds (probe_kept owns w.races.probe rs w) ws₁
     probe_stays ws₁ t h =
@@ -127,7 +124,7 @@ module _ (fs : List ℕ) (ws : List ℕ) where
         ])
 
 -- the four in order
-pub roles_hold : (fs ws ws₁ ws₂ ws₃ ws₄ : List ℕ) (c c' : ColdFront) (p p' a a' : Source) → c ≡ (window_of ws).races.cold → c' ≡ cold_kept (flagged fs) c
+pub roles_hold : (fs ws ws₁ ws₂ ws₃ ws₄ : List ℕ) (c c' : ColdFront) (p p' a a' : Option ℕ) → c ≡ (window_of ws).races.cold → c' ≡ cold_kept (flagged fs) c
     → p ≡ (window_of ws).races.preferred → p' ≡ peer_kept (flagged fs) p → a ≡ (window_of ws).races.attempted → a' ≡ peer_kept (flagged fs) a
     → Holds (with_cold c' (window_of ws)) ws₁ → Holds (with_preferred p' (window_of ws₁)) ws₂ → Holds (with_attempted a' (window_of ws₂)) ws₃
     → Holds (probe_kept (flagged fs) (window_of ws₃).races.probe (keep_seats (flagged fs) 0 (window_of ws₃).races.racers) (window_of ws₃)) ws₄
@@ -147,9 +144,9 @@ roles_hold fs ws ws₁ ws₂ ws₃ ws₄ c c' p p' a a' qc kc qp kp qa ka h₁ h
 -- ---- roles, then the rest
 
 module _ (owns : ℕ → Bool) where
-  probe_same : (p : Probe) (rs : List ℕ) (v : Window) → (probe_kept owns p rs v).queue.pending ≡ v.queue.pending
-  probe_same NoProbe rs v = refl
-  probe_same (Probing owner accepted started) rs v = elim (both (not (owns owner) || ltb (count present rs) 2)) [ inl q ↦ rw q | inr q ↦ rw q ]
+  probe_same : (p : Option PrefixProbe) (rs : List ℕ) (v : Window) → (probe_kept owns p rs v).queue.pending ≡ v.queue.pending
+  probe_same None rs v = refl
+  probe_same (Some p) rs v = elim (both (not (owns p.owner) || ltb (count present rs) 2)) [ inl q ↦ rw q | inr q ↦ rw q ]
 
   roles_same : (w : Window) → (roles_kept owns w).queue.pending ≡ w.queue.pending
   unfolding roles_kept

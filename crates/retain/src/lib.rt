@@ -11,7 +11,7 @@ ghost use Rattle.laws.specs.Pending.{Ranged};
 ghost use Rattle.report_words.specs.Report.{releases_of};
 ghost use Rattle.retain.specs.Retains.{Roles};
 
-use model::{ColdFront, Observation, Probe, Source, limits};
+use model::{ColdFront, Observation, PrefixProbe, limits};
 
 // `flagged`, of any number: none above 255 is kept.
 pub fn is_kept(flags: &[u64], seat: u64) -> bool
@@ -98,17 +98,17 @@ fn cold_kept(flags: &[u64], x: ColdFront) -> ColdFront
 }
 
 // `peer_kept`
-fn peer_kept(flags: &[u64], x: Source) -> Source
+fn peer_kept(flags: &[u64], x: Option<u64>) -> Option<u64>
     requires { length flags.now ≡ 256 }
     ensures { result ≡ peer_kept (flagged flags.now) x }
 {
     match x {
-        Source::Missing => x,
-        Source::From(s) => {
+        None => x,
+        Some(s) => {
             if is_kept(flags, s) {
                 return x;
             }
-            Source::Missing
+            None
         }
     }
 }
@@ -120,10 +120,10 @@ fn keep_probe(words: &mut [u64], flags: &[u64])
 {
     let p = state_races::get_probe(words);
     match p {
-        Probe::NoProbe => {
+        None => {
             return;
         }
-        Probe::Probing(owner, _, _) => {
+        Some(PrefixProbe { owner, .. }) => {
             state_races::keep_racers(words, flags);
             let n = state_races::racers_left(words);
             let owned = is_kept(flags, owner);

@@ -1,5 +1,5 @@
 -- What was swept and is asked for again, as a loop over the swept finds it. Definitions, and what they are to the model's. Assumes nothing.
-use Rattle.std.specs.Prelude.{◌≡◌, refl, Bool, true, false, cond, not, ◌||◌, ℕ, zero, suc, ◌+◌, ◌-◌, ◌*◌, ◌/◌, ◌%◌, ◌≤◌, ◌<◌, length, get_or, take, eqb, leb}
+use Rattle.std.specs.Prelude.{◌≡◌, refl, Bool, true, false, cond, not, ◌||◌, ℕ, zero, suc, ◌+◌, ◌-◌, ◌*◌, ◌/◌, ◌%◌, ◌≤◌, ◌<◌, length, get_or, take, eqb, leb, None, Some, Option}
 use Rattle.std.proofs.Math.Path.{sym, ap}
 use Rattle.std.proofs.Common.{subst, ◌∙◌, inl, inr, true≢false, not-suc-le-zero, le_of_suc-le-suc, add-one, length-append, get_or-take, length-take-le, ltb-false, leb-true, leb-false}
 use mathlib.Core.List.{List, [], ◌∷◌, ◌++◌, append_assoc, append-nil}
@@ -15,8 +15,6 @@ use Rattle.model.specs.Races.{by_height}
 use Rattle.model.specs.Calls.{Ask}
 use Rattle.model.specs.Planning.{Lent, Draft, draft, ask, and_ask, lower_of, names, is_pending, is_staged, is_refused, is_open, expired_request_entries, swept_asks, ask_hashes, ask_heights, written}
 use Rattle.model.specs.declared.Hash.{Hash}
-use Rattle.model.specs.declared.Height.{Height}
-use Rattle.model.specs.declared.Height.TheVariants.{Unknown, Known}
 use Rattle.laws.specs.Numbers.{both, lesser_first, lesser_second}
 use Rattle.laws.specs.RequestsKept.{Low}
 use Rattle.laws.specs.Whole.{Whole}
@@ -46,10 +44,10 @@ lent_for staged refused floor = record {
 -- what was swept in the first n releases and is asked for again, after the sweep
 unfoldable pub retries : List ℕ → List ℕ → ℕ → List ℕ → ℕ → List ℕ → ℕ → ℕ → Draft
 retries staged refused floor words n gone batch bytes =
-    expired_request_entries (lent_for staged refused floor) (window_of words) (swept_asks (releases_of n gone)) batch bytes Unknown
+    expired_request_entries (lent_for staged refused floor) (window_of words) (swept_asks (releases_of n gone)) batch bytes None
 
 -- it is the same for every Lent with these three
-entries_alone : (l : Lent) (w : Window) (asks : List Ask) (room bytes : ℕ) (low : Height)
+entries_alone : (l : Lent) (w : Window) (asks : List Ask) (room bytes : ℕ) (low : Option ℕ)
     → expired_request_entries l w asks room bytes low ≡ expired_request_entries (lent_for l.staged l.refused l.floor) w asks room bytes low
 unfolding expired_request_entries is_refused is_open is_staged
 entries_alone l w [] room bytes low = refl
@@ -61,9 +59,9 @@ entries_alone l w (a ∷ rest) room bytes low =
     (cond (is_refused l a) (r i) (cond (ltb a.height l.floor || not (is_open l w a)) (p i) (and_ask a (t i))))
 
 pub retries_are : (l : Lent) (words : List ℕ) (n : ℕ) (gone : List ℕ) (batch bytes : ℕ)
-    → retries l.staged l.refused l.floor words n gone batch bytes ≡ expired_request_entries l (window_of words) (swept_asks (releases_of n gone)) batch bytes Unknown
+    → retries l.staged l.refused l.floor words n gone batch bytes ≡ expired_request_entries l (window_of words) (swept_asks (releases_of n gone)) batch bytes None
 unfolding retries
-retries_are l words n gone batch bytes = sym (entries_alone l (window_of words) (swept_asks (releases_of n gone)) batch bytes Unknown)
+retries_are l words n gone batch bytes = sym (entries_alone l (window_of words) (swept_asks (releases_of n gone)) batch bytes None)
 
 -- ---- one of the swept, by what is asked of it
 
@@ -91,7 +89,7 @@ open_is true false = refl
 open_is false true = refl
 open_is false false = refl
 
-module _ (l : Lent) (w : Window) (a : Ask) (rest : List Ask) (room bytes : ℕ) (low : Height) where
+module _ (l : Lent) (w : Window) (a : Ask) (rest : List Ask) (room bytes : ℕ) (low : Option ℕ) where
   stops : full room bytes w.mean ≡ true → expired_request_entries l w (a ∷ rest) room bytes low ≡ draft [] bytes low
   unfolding expired_request_entries
   stops q = rw q
@@ -192,7 +190,7 @@ pub record Going (l : Lent) (w : Window) (asks : List Ask) (batch bytes : ℕ) (
   pub long_hashes : length hs ≡ length hs₀
   pub long_heights : length ts ≡ length ts₀
   pub long_index : length ix ≡ length ix₀
-  pub is : expired_request_entries l w asks batch bytes Unknown ≡ and_asks taken (expired_request_entries l w (drop i asks) (batch - n) left (height_of lowest))
+  pub is : expired_request_entries l w asks batch bytes None ≡ and_asks taken (expired_request_entries l w (drop i asks) (batch - n) left (height_of lowest))
 
 module _ (l : Lent) (w : Window) (asks : List Ask) (batch bytes : ℕ) (hs₀ ts₀ ix₀ : List ℕ) where
   pub going_start : Indexed 0 hs₀ ix₀ → Going l w asks batch bytes hs₀ ts₀ ix₀ hs₀ ts₀ ix₀ 0 bytes 0 0
@@ -209,19 +207,19 @@ module _ (l : Lent) (w : Window) (asks : List Ask) (batch bytes : ℕ) (hs₀ ts
         long_hashes = refl;
         long_heights = refl;
         long_index = refl;
-        is = ap (λ (room : ℕ). expired_request_entries l w asks room bytes Unknown) e;
+        is = ap (λ (room : ℕ). expired_request_entries l w asks room bytes None) e;
       }
 
   module _ (hs ts ix : List ℕ) (n left lowest i : ℕ) (g : Going l w asks batch bytes hs₀ ts₀ ix₀ hs ts ix n left lowest i) where
     -- what is left comes to nothing
     ends : expired_request_entries l w (drop i asks) (batch - n) left (height_of lowest) ≡ draft [] left (height_of lowest)
-        → Drafted (expired_request_entries l w asks batch bytes Unknown) batch hs₀ ts₀ hs ts ix n left lowest
+        → Drafted (expired_request_entries l w asks batch bytes None) batch hs₀ ts₀ hs ts ix n left lowest
     ends q =
-        let e : expired_request_entries l w asks batch bytes Unknown ≡ draft g.taken left (height_of lowest) =
+        let e : expired_request_entries l w asks batch bytes None ≡ draft g.taken left (height_of lowest) =
         g.is ∙ ap (and_asks g.taken) q ∙ ap (λ (x : List Ask). draft x left (height_of lowest)) (append-nil g.taken) in
         rw e (record { count = g.count; few = g.few; hashes = g.hashes; heights = g.heights; bytes = refl; low = refl; index = g.index })
 
-    pub going_end : length asks ≤ i → Drafted (expired_request_entries l w asks batch bytes Unknown) batch hs₀ ts₀ hs ts ix n left lowest
+    pub going_end : length asks ≤ i → Drafted (expired_request_entries l w asks batch bytes None) batch hs₀ ts₀ hs ts ix n left lowest
     unfolding expired_request_entries
     going_end h =
         let none : drop i asks ≡ [] = drop_of_length-le asks {i = i} h in
@@ -237,7 +235,7 @@ module _ (l : Lent) (w : Window) (asks : List Ask) (batch bytes : ℕ) (hs₀ ts
       of_window : full (batch - n) left w.mean ≡ full (batch - n) left mean
       of_window = ap (full (batch - n) left) (sym same)
 
-      pub going_stop : full (batch - n) left mean ≡ true → Drafted (expired_request_entries l w asks batch bytes Unknown) batch hs₀ ts₀ hs ts ix n left lowest
+      pub going_stop : full (batch - n) left mean ≡ true → Drafted (expired_request_entries l w asks batch bytes None) batch hs₀ ts₀ hs ts ix n left lowest
       going_stop q = ends (by_next ∙ stops l w a rest (batch - n) left (height_of lowest) (of_window ∙ q))
 
       module _ (q : full (batch - n) left mean ≡ false) where

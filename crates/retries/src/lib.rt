@@ -112,8 +112,7 @@ fn retry(
     let mut count: usize = 0;
     let mut left = bytes;
     let mut low = 0;
-    let mut i: usize = 0;
-    while i < n {
+    for i in 0..n {
         if is_full(count, batch, left, mean) {
             return Draft {
                 count,
@@ -125,15 +124,14 @@ fn retry(
         let height = height_at(keys, gone, i);
         if listed::names(refused_index, refused, h) {
             low = lower_of(low, height);
-            i += 1;
-        } else if is_passed_by(words, staged, staged_index, floor, h, height) {
-            i += 1;
-        } else {
-            plan_lists::put_ask(hashes, heights, index, count, h, height);
-            left -= mean;
-            count += 1;
-            i += 1;
+            continue;
         }
+        if is_passed_by(words, staged, staged_index, floor, h, height) {
+            continue;
+        }
+        plan_lists::put_ask(hashes, heights, index, count, h, height);
+        left -= mean;
+        count += 1;
     }
     Draft {
         count,

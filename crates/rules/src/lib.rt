@@ -6,7 +6,7 @@ ghost use Rattle.model.specs.Numbers.{max_estimate, max_body};
 ghost use Rattle.model.specs.Hash.{same};
 ghost use Rattle.model.specs.Calls.{unless_observed, unless_stalled, unless_front, next_mean, is_young};
 
-use model::{ColdFront, Front, Hash, Observation, Probe, Stall, limits};
+use model::{ColdFront, Entry, Hash, Observation, PrefixProbe, StallEpisode, limits};
 
 // Whether a hash asked of an owner is this one, asked of this source.
 fn is_ask(x: Hash, owner: u64, h: Hash, source: u64) -> bool
@@ -37,19 +37,29 @@ pub fn unless_observed(h: Hash, source: u64, o: Observation) -> Observation
 }
 
 // `unless_stalled`: an episode of this owner or of this front ends.
-pub fn unless_stalled(h: Hash, source: u64, s: Stall) -> Stall
+pub fn unless_stalled(h: Hash, source: u64, s: Option<StallEpisode>) -> Option<StallEpisode>
     ensures { result ≡ unless_stalled h source s }
 {
     match s {
-        Stall::Calm => Stall::Calm,
-        Stall::Episode(owner, front, since) => {
+        None => None,
+        Some(
+            StallEpisode {
+                owner,
+                front,
+                since,
+            },
+        ) => {
             if owner == source {
-                return Stall::Calm;
+                return None;
             }
             if hash::equal(front, h) {
-                return Stall::Calm;
+                return None;
             }
-            Stall::Episode(owner, front, since)
+            Some(StallEpisode {
+                owner,
+                front,
+                since,
+            })
         }
     }
 }
@@ -84,7 +94,7 @@ fn next_mean(mean: u64, bytes: u64) -> u64
 }
 
 // The mean after a body, whether it was asked for (then `front` is its entry) or not: `next_mean`.
-pub fn mean_after(front: Front, mean: u64, bytes: u64) -> u64
+pub fn mean_after(front: Option<Entry>, mean: u64, bytes: u64) -> u64
     requires { (mean ≤ max_estimate) × (bytes ≤ max_body) }
     ensures { result ≡ next_mean mean bytes }
 {
@@ -92,17 +102,24 @@ pub fn mean_after(front: Front, mean: u64, bytes: u64) -> u64
 }
 
 // `is_young`
-fn is_young(p: Probe, initial: u64, clock: u64) -> bool
+fn is_young(p: Option<PrefixProbe>, initial: u64, clock: u64) -> bool
     ensures { result ≡ is_young p initial clock }
 {
     match p {
-        Probe::NoProbe => false,
-        Probe::Probing(_, _, started) => numbers::minus(clock, started) < initial,
+        None => false,
+        Some(PrefixProbe { started, .. }) => numbers::minus(clock, started) < initial,
     }
 }
 
 // `engages` on what it reads: the least peers for fan-out, the first stall wait, whether it is engaged, the probe.
-pub fn engages(least: u64, initial: u64, engaged: bool, p: Probe, n: u64, clock: u64) -> bool
+pub fn engages(
+    least: u64,
+    initial: u64,
+    engaged: bool,
+    p: Option<PrefixProbe>,
+    n: u64,
+    clock: u64,
+) -> bool
     ensures { result ≡ cond (leb least n && not (is_young p initial clock)) true (cond (ltb (suc n) least) false engaged) }
 {
     if least <= n {

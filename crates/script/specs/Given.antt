@@ -1,7 +1,6 @@
 -- What a call of the demo is given by its numbers, and what is written of it.
-use Rattle.std.specs.Prelude.{Bool, true, false, ◌||◌, List, ℕ, zero, suc, ◌+◌, ◌*◌, ◌-◌, ◌%◌, eqb, ltb, set, replicate}
+use Rattle.std.specs.Prelude.{Bool, true, false, ◌||◌, List, ℕ, zero, suc, ◌+◌, ◌*◌, ◌-◌, ◌%◌, eqb, ltb, set, replicate, Result}
 use Rattle.model.specs.Numbers.{lesser}
-use Rattle.model.specs.declared.Number.{Number}
 use Rattle.model.specs.declared.Settings.{Settings}
 use Rattle.ledger.specs.Book.{value}
 use Rattle.lines.specs.declared.Call.{Call}
@@ -9,6 +8,7 @@ use Rattle.lines.specs.declared.After.{After}
 use Rattle.script.specs.declared.Step.{Step}
 use Rattle.script.specs.declared.Plan.{Plan}
 use Rattle.script.specs.declared.Span.{Span}
+use Rattle.model.specs.declared.Refusal.{Refusal}
 
 -- the Rust's `default_sync_budget`, with a block every ten minutes
 abbrev pub settings : Settings
@@ -76,5 +76,5 @@ call_of s p = let n = named s p in record {
 }
 
 -- what the window says is pending: blocks, bytes, and the peer's blocks
-abbrev pub after_of : Number → Number → Number → After
+abbrev pub after_of : Result ℕ Refusal → Result ℕ Refusal → Result ℕ Refusal → After
 after_of in_blocks in_bytes of_peer = record { pending = value in_blocks; bytes = value in_bytes; share = value of_peer }

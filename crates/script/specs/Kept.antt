@@ -1,7 +1,8 @@
 -- What the demo keeps of a call: the last plan, and which blocks are staged.
-use Rattle.std.specs.Prelude.{Bool, cond, not, ◌&&◌, ◌||◌, List, ℕ, ◌+◌, ◌-◌, eqb, leb, length, get_or, set}
+use Rattle.std.specs.Prelude.{Bool, cond, not, ◌&&◌, ◌||◌, List, ℕ, ◌+◌, ◌-◌, eqb, leb, length, get_or, set, Option, None, Some, Result, Ok, Err}
 use Rattle.model.specs.declared.NextRequest.{NextRequest}
-use Rattle.model.specs.declared.NextRequest.TheVariants.{Refused, NoRequest, Request}
+use Rattle.model.specs.declared.Request.{Request}
+use Rattle.model.specs.declared.Refusal.{Refusal}
 use Rattle.lines.specs.declared.Said.{Said}
 use Rattle.script.specs.Given.{height_of}
 use Rattle.script.specs.declared.Step.{Step}
@@ -11,11 +12,14 @@ use Rattle.script.specs.declared.Plan.{Plan}
 unfoldable pub plan_of : ℕ → ℕ → List ℕ → Plan
 plan_of count next heights = record { count = count; first = get_or heights 0 0; last = get_or heights (count - 1) 0; next = height_of next }
 
+abbrev pub plan_of_request : Option Request → List ℕ → Plan
+plan_of_request None heights = plan_of 0 0 heights
+plan_of_request (Some r) heights = plan_of r.count r.next_height heights
+
 -- a refused call makes no plan
-abbrev pub planned : NextRequest → List ℕ → Plan
-planned (Refused n) heights = plan_of 0 0 heights
-planned (NoRequest places) heights = plan_of 0 0 heights
-planned (Request places n next) heights = plan_of n next heights
+abbrev pub planned : Result NextRequest Refusal → List ℕ → Plan
+planned (Err r) heights = plan_of 0 0 heights
+planned (Ok n) heights = plan_of_request n.request heights
 
 -- a block came: 3 its body, 7 by another way
 abbrev pub came : ℕ → Bool → Bool

@@ -2,7 +2,8 @@
 // numbers in the columns of its line, what a call is given by them, and the line that is written of it.
 #![tactic(auto)]
 
-ghost use Rattle.std.specs.Prelude.{◌≡◌, ◌+◌, ◌*◌, ◌-◌, ◌%◌, ◌≤◌, ◌<◌, eqb, leb, length, get_or, set, drop, replicate};
+ghost use Rattle.std.specs.Prelude.{◌≡◌, ◌+◌, ◌*◌, ◌-◌, ◌%◌, ◌≤◌, ◌<◌, eqb, leb, length, get_or, set, take, drop, replicate, MatchOption};
+ghost use Rattle.std.specs.Iterator.{at_most};
 ghost use Rattle.model.specs.Numbers.{lesser};
 ghost use Rattle.lines.specs.Rows.{row};
 ghost use Rattle.script.specs.Text.{line_length, with_digit, number_in, hash_of, step_of};
@@ -11,7 +12,7 @@ ghost use Rattle.script.specs.Kept.{plan_of, planned, came, staged_after, words_
 
 use ledger::value;
 use lines::{After, Call, Said};
-use model::{Hash, NextRequest, Number, Settings};
+use model::{Hash, NextRequest, Refusal, Request, Settings};
 
 // A call of the script: its place among the names in lines::words, tenths of a second and the clock in nanoseconds, the peer, the first block with its hash and how many
 // blocks, and one number more.
@@ -51,15 +52,39 @@ pub fn line_end(text: &[u8], from: usize) -> usize
     requires { from < length text.now }
     ensures { (result ≡ from + line_length (drop from text.now)) × (from < result) × (result ≤ length text.now) }
 {
-    let mut k = from;
-    while k < text.len() {
-        let next = k + 1;
-        if text[k] == b'\n' {
-            return next;
-        }
-        k = next;
+    match text[from..].iter().position(|b| *b == b'\n') {
+        Some(k) => from + k + 1,
+        None => text.len(),
     }
-    k
+}
+
+// The lines of a text that are left, each with its line end.
+#[derive(Drop)]
+pub struct Lines<'a> {
+    pub rest: &'a [u8],
+}
+
+pub fn lines_of(text: &[u8]) -> Lines<'_>
+    ensures { result.rest.now ≡ text.now }
+{
+    Lines { rest: text }
+}
+
+impl<'a> Iterator for Lines<'a> {
+    type Item = &'a [u8];
+
+    ghost remaining = { λ s. at_most (length s.rest.now) };
+
+    ghost next_gives = { λ s r t. MatchOption r (length s.rest.now ≡ 0) (λ line. (line.now ≡ take (line_length s.rest.now) s.rest.now) × (t.rest.now ≡ drop (line_length s.rest.now) s.rest.now)) };
+
+    fn next(&mut self) -> Option<&'a [u8]> {
+        if self.rest.is_empty() {
+            return None;
+        }
+        let (line, rest) = self.rest.split_at(line_end(self.rest, 0));
+        self.rest = rest;
+        Some(line)
+    }
 }
 
 // Past a line's end 0, which is no digit.
@@ -97,10 +122,8 @@ fn number_in(line: &[u8], from: usize, width: usize) -> u32
     ensures { result ≡ number_in line.now from width }
 {
     let mut n: u32 = 0;
-    let mut i: usize = 0;
-    while i < width {
+    for i in 0..width {
         n = with_digit(n, byte_at(line, from + i));
-        i += 1;
     }
     n
 }
@@ -173,10 +196,8 @@ pub fn keys() -> [u64; 256]
     ensures { result ≡ keys 256 }
 {
     let mut l: [u64; 256] = [0; 256];
-    let mut i: usize = 0;
-    while i < 256 {
-        l[i] = i as u64;
-        i += 1;
+    for (i, key) in l.iter_mut().enumerate() {
+        *key = i as u64;
     }
     l
 }
@@ -198,10 +219,8 @@ pub fn hashes_from(first: u32) -> [u64; 32]
     ensures { result ≡ hashes 8 first }
 {
     let mut l: [u64; 32] = [0; 32];
-    let mut i: usize = 0;
-    while i < 8 {
+    for i in 0..8 {
         l[4 * i + 3] = (first as u64) + (i as u64);
-        i += 1;
     }
     l
 }
@@ -234,10 +253,8 @@ pub fn chain() -> [u64; 256]
     ensures { result ≡ chain 64 }
 {
     let mut l: [u64; 256] = [0; 256];
-    let mut i: usize = 0;
-    while i < 64 {
+    for i in 0..64 {
         l[4 * i + 3] = i as u64;
-        i += 1;
     }
     l
 }
@@ -290,13 +307,17 @@ fn plan_of(count: u64, next: u64, heights: &[u32]) -> Plan
 }
 
 // What a call that plans came to. A refused one makes no plan.
-pub fn planned(a: NextRequest, heights: &[u32]) -> Plan
+pub fn planned(a: Result<NextRequest, Refusal>, heights: &[u32]) -> Plan
     ensures { result ≡ planned a heights.now }
 {
     match a {
-        NextRequest::Refused(_) => plan_of(0, 0, heights),
-        NextRequest::NoRequest(_) => plan_of(0, 0, heights),
-        NextRequest::Request(_, n, next) => plan_of(n, next, heights),
+        Ok(
+            NextRequest {
+                request: Some(Request { count, next_height }),
+                ..
+            },
+        ) => plan_of(count, next_height, heights),
+        _ => plan_of(0, 0, heights),
     }
 }
 
@@ -386,7 +407,11 @@ fn call_of(s: Step, p: Plan) -> Call
     }
 }
 
-fn after_of(pending: Number, bytes: Number, share: Number) -> After
+fn after_of(
+    pending: Result<u64, Refusal>,
+    bytes: Result<u64, Refusal>,
+    share: Result<u64, Refusal>,
+) -> After
     ensures { result ≡ after_of pending bytes share }
 {
     After {
@@ -401,9 +426,9 @@ pub fn row_of(
     s: Step,
     p: Plan,
     said: Said,
-    pending: Number,
-    bytes: Number,
-    share: Number,
+    pending: Result<u64, Refusal>,
+    bytes: Result<u64, Refusal>,
+    share: Result<u64, Refusal>,
 ) -> [u8; 81]
     ensures { result ≡ row (call_of s p) said (after_of pending bytes share) }
 {

@@ -13,7 +13,6 @@ ghost use Rattle.laws.specs.Tables.{with_starts, with_bodies, with_racers, seat_
 ghost use Rattle.records.specs.Places.{stored};
 
 use model::at;
-use records::Oldest;
 
 // ---- one seat
 
@@ -69,13 +68,13 @@ pub fn set_racer(words: &mut [u64], seat: usize, racer: u64)
 // ---- `reset_owner_queue_start`
 
 // `start_reset`: none left, it goes; the one removed older, the clock; equal, the later of start and oldest; newer, as it was.
-fn start_reset(clock: u64, removed: u64, left: Oldest, start: u64) -> u64
+fn start_reset(clock: u64, removed: u64, left: Option<u64>, start: u64) -> u64
     requires { (clock ≤ max_clock) × (removed ≤ max_clock) }
     ensures { result ≡ start_reset clock (suc removed) (stored left) start }
 {
     match left {
-        Oldest::Never => 0,
-        Oldest::Since(u) => {
+        None => 0,
+        Some(u) => {
             if removed < u {
                 return clock + 1;
             }
@@ -88,12 +87,12 @@ fn start_reset(clock: u64, removed: u64, left: Oldest, start: u64) -> u64
 }
 
 // `body_reset`
-fn body_reset(left: Oldest, body: u64) -> u64
+fn body_reset(left: Option<u64>, body: u64) -> u64
     ensures { result ≡ body_reset (stored left) body }
 {
     match left {
-        Oldest::Never => 0,
-        Oldest::Since(_) => body,
+        None => 0,
+        Some(_) => body,
     }
 }
 
@@ -104,7 +103,7 @@ pub fn reset_owner_queue_start(
     owner: usize,
     removed: u64,
     clock: u64,
-    left: Oldest,
+    left: Option<u64>,
 )
     requires { (length words.old ≡ 4096) × ((owner < 256) × ((clock ≤ max_clock) × (removed ≤ max_clock))) }
     ensures { decode words.new ≡ seat_reset owner removed clock (stored left) (decode words.old) }
@@ -152,10 +151,8 @@ fn count_present(col: &[u64]) -> u64
     ensures { result ≡ count present col.now }
 {
     let mut n = 0;
-    let mut i = col.len();
-    while 0 < i {
-        i -= 1;
-        if col[i] != 0 {
+    for word in col {
+        if *word != 0 {
             n += 1;
         }
     }
@@ -192,11 +189,8 @@ fn keep_flagged(col: &mut [u64], flags: &[u64])
     requires { length flags.now ≡ length col.old }
     ensures { col.new ≡ keep_seats (flagged flags.now) 0 col.old }
 {
-    let mut i = 0;
-    while i < col.len() {
-        let w = kept_word(flags[i], col[i]);
-        col[i] = w;
-        i += 1;
+    for (i, word) in col.iter_mut().enumerate() {
+        *word = kept_word(flags[i], *word);
     }
 }
 

@@ -10,7 +10,7 @@ ghost use Rattle.model.specs.Window.{with_clock, with_mean, with_frontier, with_
 ghost use Rattle.laws.specs.Whole.{Whole, Holds};
 ghost use Rattle.states.specs.Fits.{stall_fits, stuck_fits, cold_fits};
 
-use model::{ColdFront, Fanout, Observation, Pace, Settings, Source, Stall, Stuck, head};
+use model::{ColdFront, Fanout, Observation, Pace, Settings, StallEpisode, StuckFrontier, head};
 
 // ---- the head's numbers
 
@@ -130,28 +130,28 @@ pub fn set_cold(words: &mut [u64], x: ColdFront)
     states::store_cold(words, x);
 }
 
-pub fn get_preferred(words: &[u64]) -> Source
+pub fn get_preferred(words: &[u64]) -> Option<u64>
     requires { length words.now ≡ 4096 }
     ensures { result ≡ (window_of words.now).races.preferred }
 {
     layout::load_preferred(words)
 }
 
-pub fn set_preferred(words: &mut [u64], x: Source)
+pub fn set_preferred(words: &mut [u64], x: Option<u64>)
     requires { Whole words.old × (source_word x ≤ 256) }
     ensures { Holds (with_preferred x (window_of words.old)) words.new }
 {
     layout::store_preferred(words, x);
 }
 
-pub fn get_attempted(words: &[u64]) -> Source
+pub fn get_attempted(words: &[u64]) -> Option<u64>
     requires { length words.now ≡ 4096 }
     ensures { result ≡ (window_of words.now).races.attempted }
 {
     layout::load_attempted(words)
 }
 
-pub fn set_attempted(words: &mut [u64], x: Source)
+pub fn set_attempted(words: &mut [u64], x: Option<u64>)
     requires { Whole words.old × (source_word x ≤ 256) }
     ensures { Holds (with_attempted x (window_of words.old)) words.new }
 {
@@ -160,28 +160,28 @@ pub fn set_attempted(words: &mut [u64], x: Source)
 
 // ---- watch
 
-pub fn get_stall(words: &[u64]) -> Stall
+pub fn get_stall(words: &[u64]) -> Option<StallEpisode>
     requires { length words.now ≡ 4096 }
     ensures { result ≡ (window_of words.now).watch.stall }
 {
     states::load_stall(words)
 }
 
-pub fn set_stall(words: &mut [u64], x: Stall)
+pub fn set_stall(words: &mut [u64], x: Option<StallEpisode>)
     requires { Whole words.old × stall_fits x }
     ensures { Holds (with_stall x (window_of words.old)) words.new }
 {
     states::store_stall(words, x);
 }
 
-pub fn get_stuck(words: &[u64]) -> Stuck
+pub fn get_stuck(words: &[u64]) -> Option<StuckFrontier>
     requires { length words.now ≡ 4096 }
     ensures { result ≡ (window_of words.now).watch.stuck }
 {
     states::load_stuck(words)
 }
 
-pub fn set_stuck(words: &mut [u64], x: Stuck)
+pub fn set_stuck(words: &mut [u64], x: Option<StuckFrontier>)
     requires { Whole words.old × stuck_fits x }
     ensures { Holds (with_stuck x (window_of words.old)) words.new }
 {

@@ -1,5 +1,5 @@
 -- The entries of the window that the words hold, and what a step on them and on their seats is to the window. Assumes nothing.
-use Rattle.std.specs.Prelude.{◌≡◌, true, cond, List, [], ◌∷◌, ℕ, zero, suc, ◌+◌, ◌-◌, ◌≤◌, ◌<◌, set, eqb, leb, ltb}
+use Rattle.std.specs.Prelude.{◌≡◌, true, cond, List, [], ◌∷◌, ℕ, zero, suc, ◌+◌, ◌-◌, ◌≤◌, ◌<◌, set, eqb, leb, ltb, Ok, Err}
 use Rattle.std.proofs.Math.Path.{refl, sym, ap}
 use Rattle.std.proofs.Common.{subst, ◌∙◌, suc-le-suc, zero-le, not-suc-le-zero, le_of_suc-le-suc, arith, get_or-take, eqb-true, leb-true, leb-false, ltb-true, le-ltb, inl, inr}
 use Rattle.std.proofs.Math.ListN.{length, get_or, take, drop, replicate}
@@ -21,7 +21,6 @@ use Rattle.laws.specs.Tables.{with_words, with_starts, with_bodies, removed, put
 use Rattle.laws.specs.Groups.{queue_in, removed_in, put_in_in, kept_in}
 use Rattle.laws.specs.Whole.{Shaped, Whole, Holds, lifted, words_shaped}
 use Rattle.records.specs.Places.{Finds, floored, here_found, free_found}
-use Rattle.records.specs.declared.Place.TheVariants.{Here, Free}
 use Rattle.laws.specs.Tables.{seat_reset, kept_seats}
 use Rattle.laws.specs.Marks.{keep_by_take}
 use Rattle.records.specs.Cleared.{all_marked, length_all, none_stays}
@@ -112,7 +111,7 @@ unfolding remove same
 remove_alike g h e [] = refl
 remove_alike g h e (x ∷ l) = λ i. cond (eqb (key x.hash) (e i)) l (x ∷ remove_alike g h e l i)
 
-pub without_is : (h : Hash) (at : ℕ) (q : Queue) → rising q.pending ≡ true → Finds h q.pending (Here at)
+pub without_is : (h : Hash) (at : ℕ) (q : Queue) → rising q.pending ≡ true → Finds h q.pending (Ok at)
     → queue (q.total - (get_or q.pending at blank).estimate) (remove_at at q.pending) q.starts q.bodies ≡ without (get_or q.pending at blank) q
 unfolding without same
 without_is h at q r (f, (b, s)) =
@@ -120,7 +119,7 @@ without_is h at q r (f, (b, s)) =
     ap (λ (es : List Entry). queue (q.total - e.estimate) es q.starts q.bodies)
     (sym (remove_alike e.hash h (eqb-true (key e.hash) (key h) s) q.pending ∙ (here_found h q.pending at r (f, (b, s))).1))
 
-pub put_is : (at : ℕ) (e : Entry) (q : Queue) → rising q.pending ≡ true → Finds e.hash q.pending (Free at)
+pub put_is : (at : ℕ) (e : Entry) (q : Queue) → rising q.pending ≡ true → Finds e.hash q.pending (Err at)
     → queue (q.total + e.estimate) (insert_at at e q.pending) q.starts q.bodies ≡ put e q
 unfolding put
 put_is at e q r f = ap (λ (es : List Entry). queue (q.total + e.estimate) es q.starts q.bodies) (sym ((free_found e.hash q.pending at r f).1 e refl))

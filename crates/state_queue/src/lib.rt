@@ -15,8 +15,7 @@ ghost use Rattle.laws.specs.Whole.{Whole, Holds};
 ghost use Rattle.records.specs.Places.{Finds, stored, floored};
 ghost use Rattle.state_queue.specs.Steps.{entries_put, start_floor};
 
-use model::{Entry, Front, Hash, head};
-use records::{Oldest, Place};
+use model::{Entry, Hash, head};
 
 // ---- the entries read
 
@@ -34,8 +33,8 @@ pub fn entry_at(words: &[u64], i: usize) -> Entry
     records::entry_of(words, i)
 }
 
-// The place of a hash, or where it would go.
-pub fn find(words: &[u64], h: Hash) -> Place
+// The place of a hash, or else where it would go.
+pub fn find(words: &[u64], h: Hash) -> Result<usize, usize>
     requires { Whole words.now }
     ensures { Finds h (window_of words.now).queue.pending result }
 {
@@ -43,7 +42,7 @@ pub fn find(words: &[u64], h: Hash) -> Place
     records::find(words, n, h)
 }
 
-pub fn lowest(words: &[u64]) -> Front
+pub fn lowest(words: &[u64]) -> Option<Entry>
     requires { Whole words.now }
     ensures { result ≡ lowest (window_of words.now).queue.pending }
 {
@@ -51,7 +50,7 @@ pub fn lowest(words: &[u64]) -> Front
     records::lowest(words, n)
 }
 
-pub fn at_height(words: &[u64], height: u64) -> Front
+pub fn at_height(words: &[u64], height: u64) -> Option<Entry>
     requires { Whole words.now }
     ensures { result ≡ at_height height (window_of words.now).queue.pending }
 {
@@ -76,7 +75,7 @@ pub fn pending_count_for(words: &[u64], owner: u64) -> u64
 }
 
 // The owner's oldest, no lower than a floor.
-pub fn oldest_from(words: &[u64], owner: u64, floor: u64) -> Oldest
+pub fn oldest_from(words: &[u64], owner: u64, floor: u64) -> Option<u64>
     requires { Whole words.now }
     ensures { stored result ≡ floored floor (oldest owner (window_of words.now).queue.pending) }
 {

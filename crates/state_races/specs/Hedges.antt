@@ -1,6 +1,6 @@
 -- How many hedged fronts and planned hashes there are and which, in words that hold a window; one more hedged front; a probe without its racers.
 -- Assumes nothing.
-use Rattle.std.specs.Prelude.{◌≡◌, Bool, true, false, ◌||◌, List, [], ◌∷◌, ◌++◌, ℕ, zero, suc, ◌+◌, ◌-◌, ◌*◌, ◌≤◌, ◌<◌, drop, replicate}
+use Rattle.std.specs.Prelude.{◌≡◌, Bool, true, false, ◌||◌, List, [], ◌∷◌, ◌++◌, ℕ, zero, suc, ◌+◌, ◌-◌, ◌*◌, ◌≤◌, ◌<◌, drop, replicate, None, Some, Option}
 use Rattle.std.proofs.Math.Path.{refl, sym, ap}
 use Rattle.std.proofs.Common.{◌∙◌, not-suc-le-zero, le_of_suc-le-suc, arith, length-append, length-take, drop-cons}
 use Rattle.std.proofs.Math.ListN.{length, get_or, take, length-drop}
@@ -10,8 +10,7 @@ use Rattle.model.specs.Hash.{hash, hashes_in, hashes_words}
 use Rattle.model.specs.Layout.{Table, decode, window_of, read, table, word, words_at, hash_at, is_0, settings_words, stall_words, stuck_words, cold_words, hedged_words, observation_words, probe_words, planned_words, counts_words, small_words, head_words}
 use Rattle.model.specs.Window.{Window, with_probe}
 use Rattle.model.specs.declared.Hash.{Hash}
-use Rattle.model.specs.declared.Probe.{Probe}
-use Rattle.model.specs.declared.Probe.TheVariants.{NoProbe, Probing}
+use Rattle.model.specs.declared.PrefixProbe.{PrefixProbe}
 use Rattle.laws.specs.Tables.{with_words, sized_decode}
 use Rattle.laws.specs.Groups.{plan_in}
 use Rattle.laws.specs.Heads.{seg, padded_back, count_said}
@@ -19,9 +18,9 @@ use Rattle.laws.specs.Whole.{Shaped, Whole, words_shaped, length_stall, length_s
 
 -- ---- the counts
 
-third : (x : Probe) (n : ℕ) → get_or (probe_words x n) 2 0 ≡ n
-third NoProbe n = refl
-third (Probing owner accepted started) n = refl
+third : (x : Option PrefixProbe) (n : ℕ) → get_or (probe_words x n) 2 0 ≡ n
+third None n = refl
+third (Some p) n = refl
 
 at_46 : (w : Window) → drop 46 (head_words w) ≡ hedged_words w.races.hedged ++ (observation_words w.watch.observation
     ++ (probe_words w.races.probe (length w.races.planned) ++ (planned_words w.races.planned ++ replicate 415 0)))
@@ -52,9 +51,9 @@ plans w s =
     let e = seg 55 61 6 l (observation_words w.watch.observation) _ refl (length_observation w.watch.observation) d.1 in
     sym (get_or-drop 61 l 2 0) ∙ ap (λ (x : List ℕ). get_or x 2 0) e.1 ∙ in_first p _ 2 (long w.races.probe n) ∙ third w.races.probe n
   where
-    long : (x : Probe) (n : ℕ) → 2 < length (probe_words x n)
-    long NoProbe n = omega arith
-    long (Probing owner accepted started) n = omega arith
+    long : (x : Option PrefixProbe) (n : ℕ) → 2 < length (probe_words x n)
+    long None n = omega arith
+    long (Some p) n = omega arith
 
 module _ (ws : List ℕ) (h : Whole ws) where
   pub hedged_count : word 46 (decode ws) ≡ length (window_of ws).races.hedged
@@ -180,7 +179,7 @@ module _ (n : ℕ) (l : List ℕ) (p : Plan n l) where
   pub plan_count : length (take n (hashes_in l)) ≡ n
   plan_count = count_said 32 n l p.words (omega (arith, p.few))
 
-  pub planned_in : (w : Window) → Shaped w → (x : Probe) → with_words 65 l (with_words 61 (probe_words x n) (table w)) ≡ table (with_probe x (take n (hashes_in l)) w.races.racers w)
+  pub planned_in : (w : Window) → Shaped w → (x : Option PrefixProbe) → with_words 65 l (with_words 61 (probe_words x n) (table w)) ≡ table (with_probe x (take n (hashes_in l)) w.races.racers w)
   planned_in w s x =
       (λ i. with_words 65 (sym plan_words i) (with_words 61 (probe_words x (sym plan_count i)) (table w)))
       ∙ plan_in w s x (take n (hashes_in l)) (omega (arith, plan_count, p.few))

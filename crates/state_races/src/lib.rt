@@ -14,7 +14,7 @@ ghost use Rattle.states.specs.Fits.{probe_fits};
 ghost use Rattle.model.specs.declared.Hash.{Hash};
 ghost use Rattle.state_races.specs.Hedges.{pushed, Plan, Lists};
 
-use model::{Hash, Probe, head, sizes};
+use model::{Hash, PrefixProbe, head, sizes};
 
 // ---- hedged fronts
 
@@ -30,16 +30,10 @@ fn is_listed(words: &[u64], k: usize, n: usize, h: Hash) -> bool
     requires { (length words.now ≡ 4096) × (k + 4 * n ≤ 512) }
     ensures { (hs : List Hash) → Lists k n hs (decode words.now) → result ≡ any (λ x. same x h) hs }
 {
-    let mut i = 0;
-    while i < n {
-        let a = k + sizes::HASH_WORDS * i;
-        let x = layout::hash_of(words, a);
-        if hash::equal(x, h) {
-            return true;
-        }
-        i += 1;
-    }
-    false
+    (0..n).any(|i| {
+        let x = layout::hash_of(words, k + sizes::HASH_WORDS * i);
+        hash::equal(x, h)
+    })
 }
 
 pub fn is_hedged(words: &[u64], h: Hash) -> bool
@@ -73,7 +67,7 @@ pub fn push_hedged(words: &mut [u64], h: Hash)
 
 // ---- the probe
 
-pub fn get_probe(words: &[u64]) -> Probe
+pub fn get_probe(words: &[u64]) -> Option<PrefixProbe>
     requires { length words.now ≡ 4096 }
     ensures { result ≡ (window_of words.now).races.probe }
 {
@@ -104,7 +98,7 @@ pub fn is_planned(words: &[u64], h: Hash) -> bool
 }
 
 // The probe's own words, its hashes and racers as they were.
-pub fn set_probe(words: &mut [u64], x: Probe)
+pub fn set_probe(words: &mut [u64], x: Option<PrefixProbe>)
     requires { Whole words.old × probe_fits x }
     ensures { Holds (with_probe x (window_of words.old).races.planned (window_of words.old).races.racers (window_of words.old)) words.new }
 {
@@ -113,7 +107,7 @@ pub fn set_probe(words: &mut [u64], x: Probe)
 }
 
 // The probe with n hashes, four words each and 0 after them; its racers as they were.
-pub fn set_plan(words: &mut [u64], x: Probe, n: u64, list: &[u64])
+pub fn set_plan(words: &mut [u64], x: Option<PrefixProbe>, n: u64, list: &[u64])
     requires { Whole words.old × (probe_fits x × Plan n list.now) }
     ensures { Holds (with_probe x (take n (hashes_in list.now)) (window_of words.old).races.racers (window_of words.old)) words.new }
 {
@@ -158,7 +152,7 @@ pub fn clear_probe(words: &mut [u64])
     ensures { Holds (without_probe (window_of words.old)) words.new }
 {
     let none = [0; sizes::PLANNED_WORDS];
-    let p = Probe::NoProbe;
+    let p = None;
     set_plan(words, p, 0, &none);
     clear_racers(words);
 }

@@ -4,26 +4,24 @@ use Prim.Native.Nat.{ℕ, zero, suc, ◌-◌}
 use native.Mathlib.Omega.{arith}
 use Rattle.model.specs.Layout.{stall_of, stuck_of, cold_of, observation_of, probe_of}
 use Rattle.model.specs.declared.Hash.{Hash}
-use Rattle.model.specs.declared.Stall.TheVariants.{Episode}
-use Rattle.model.specs.declared.Stuck.TheVariants.{StuckAt}
 use Rattle.model.specs.declared.ColdFront.TheVariants.{Racing}
-use Rattle.model.specs.declared.Probe.TheVariants.{Probing}
 use Rattle.model.specs.declared.Observation.TheVariants.{Swept}
+use Rattle.model.specs.Window.{episode, stuck_at, probing}
 
 back : (n : ℕ) → suc n - 1 ≡ n
 back n = omega arith
 
-pub stall_some : (s owner : ℕ) (h : Hash) → (s ≡ 0 → ⊥) → Episode owner h (s - 1) ≡ stall_of s owner h
+pub stall_some : (s owner : ℕ) (h : Hash) → (s ≡ 0 → ⊥) → episode owner h (s - 1) ≡ stall_of s owner h
 stall_some zero owner h n = absurd (n refl)
-stall_some (suc s) owner h n = ap (Episode owner h) (back s)
+stall_some (suc s) owner h n = ap (episode owner h) (back s)
 
-pub stuck_some : (s height : ℕ) (h : Hash) → (s ≡ 0 → ⊥) → StuckAt height h (s - 1) ≡ stuck_of s height h
+pub stuck_some : (s height : ℕ) (h : Hash) → (s ≡ 0 → ⊥) → stuck_at height h (s - 1) ≡ stuck_of s height h
 stuck_some zero height h n = absurd (n refl)
-stuck_some (suc s) height h n = ap (StuckAt height h) (back s)
+stuck_some (suc s) height h n = ap (stuck_at height h) (back s)
 
-pub probe_some : (s owner accepted : ℕ) → (s ≡ 0 → ⊥) → Probing owner accepted (s - 1) ≡ probe_of s owner accepted
+pub probe_some : (s owner accepted : ℕ) → (s ≡ 0 → ⊥) → probing owner accepted (s - 1) ≡ probe_of s owner accepted
 probe_some zero owner accepted n = absurd (n refl)
-probe_some (suc s) owner accepted n = ap (Probing owner accepted) (back s)
+probe_some (suc s) owner accepted n = ap (probing owner accepted) (back s)
 
 pub cold_race : (k owner x : ℕ) (h : Hash) → (k ≡ 0 → ⊥) → (k ≡ 1 → ⊥) → Racing owner x h ≡ cold_of k owner x h
 cold_race zero owner x h n m = absurd (n refl)

@@ -8,21 +8,25 @@ ghost use Rattle.model.specs.Places.{head_stall, head_stall_owner, head_stall_ha
 ghost use Rattle.laws.specs.Tables.{with_words};
 ghost use Rattle.states.specs.Fits.{stall_fits, stuck_fits, cold_fits, probe_fits};
 
-use model::{ColdFront, Hash, Observation, Probe, Stall, Stuck, head, sizes};
+use model::{ColdFront, Hash, Observation, PrefixProbe, StallEpisode, StuckFrontier, head, sizes};
 
 // ---- stall episode
 
 // `stall_of`
-fn stall_of(since: u64, owner: u64, h: Hash) -> Stall
+fn stall_of(since: u64, owner: u64, h: Hash) -> Option<StallEpisode>
     ensures { result ≡ stall_of since owner h }
 {
     if since == 0 {
-        return Stall::Calm;
+        return None;
     }
-    Stall::Episode(owner, h, since - 1)
+    Some(StallEpisode {
+        owner,
+        front: h,
+        since: since - 1,
+    })
 }
 
-pub fn load_stall(words: &[u64]) -> Stall
+pub fn load_stall(words: &[u64]) -> Option<StallEpisode>
     requires { length words.now ≡ 4096 }
     ensures { result ≡ stall_of (word head_stall (decode words.now)) (word head_stall_owner (decode words.now)) (hash_at head_stall_hash (decode words.now)) }
 {
@@ -33,17 +37,23 @@ pub fn load_stall(words: &[u64]) -> Stall
 }
 
 // `stall_words`
-fn stall_list(s: Stall) -> [u64; sizes::STALL_WORDS]
+fn stall_list(s: Option<StallEpisode>) -> [u64; sizes::STALL_WORDS]
     requires { stall_fits s }
     ensures { result ≡ stall_words s }
 {
     match s {
-        Stall::Calm => [0, 0, 0, 0, 0, 0],
-        Stall::Episode(owner, h, since) => [since + 1, owner, h.a, h.b, h.c, h.d],
+        None => [0, 0, 0, 0, 0, 0],
+        Some(
+            StallEpisode {
+                owner,
+                front: h,
+                since,
+            },
+        ) => [since + 1, owner, h.a, h.b, h.c, h.d],
     }
 }
 
-pub fn store_stall(words: &mut [u64], s: Stall)
+pub fn store_stall(words: &mut [u64], s: Option<StallEpisode>)
     requires { (length words.old ≡ 4096) × stall_fits s }
     ensures { decode words.new ≡ with_words head_stall (stall_words s) (decode words.old) }
 {
@@ -54,16 +64,20 @@ pub fn store_stall(words: &mut [u64], s: Stall)
 // ---- stuck frontier
 
 // `stuck_of`
-fn stuck_of(since: u64, height: u64, h: Hash) -> Stuck
+fn stuck_of(since: u64, height: u64, h: Hash) -> Option<StuckFrontier>
     ensures { result ≡ stuck_of since height h }
 {
     if since == 0 {
-        return Stuck::Moving;
+        return None;
     }
-    Stuck::StuckAt(height, h, since - 1)
+    Some(StuckFrontier {
+        height,
+        front: h,
+        since: since - 1,
+    })
 }
 
-pub fn load_stuck(words: &[u64]) -> Stuck
+pub fn load_stuck(words: &[u64]) -> Option<StuckFrontier>
     requires { length words.now ≡ 4096 }
     ensures { result ≡ stuck_of (word head_stuck (decode words.now)) (word head_stuck_height (decode words.now)) (hash_at head_stuck_hash (decode words.now)) }
 {
@@ -74,17 +88,23 @@ pub fn load_stuck(words: &[u64]) -> Stuck
 }
 
 // `stuck_words`
-fn stuck_list(s: Stuck) -> [u64; sizes::STUCK_WORDS]
+fn stuck_list(s: Option<StuckFrontier>) -> [u64; sizes::STUCK_WORDS]
     requires { stuck_fits s }
     ensures { result ≡ stuck_words s }
 {
     match s {
-        Stuck::Moving => [0, 0, 0, 0, 0, 0],
-        Stuck::StuckAt(height, h, since) => [since + 1, height, h.a, h.b, h.c, h.d],
+        None => [0, 0, 0, 0, 0, 0],
+        Some(
+            StuckFrontier {
+                height,
+                front: h,
+                since,
+            },
+        ) => [since + 1, height, h.a, h.b, h.c, h.d],
     }
 }
 
-pub fn store_stuck(words: &mut [u64], s: Stuck)
+pub fn store_stuck(words: &mut [u64], s: Option<StuckFrontier>)
     requires { (length words.old ≡ 4096) × stuck_fits s }
     ensures { decode words.new ≡ with_words head_stuck (stuck_words s) (decode words.old) }
 {
@@ -188,16 +208,20 @@ pub fn store_observation(words: &mut [u64], s: Observation)
 // ---- probe, without its hashes
 
 // `probe_of`
-fn probe_of(started: u64, owner: u64, accepted: u64) -> Probe
+fn probe_of(started: u64, owner: u64, accepted: u64) -> Option<PrefixProbe>
     ensures { result ≡ probe_of started owner accepted }
 {
     if started == 0 {
-        return Probe::NoProbe;
+        return None;
     }
-    Probe::Probing(owner, accepted, started - 1)
+    Some(PrefixProbe {
+        owner,
+        accepted,
+        started: started - 1,
+    })
 }
 
-pub fn load_probe(words: &[u64]) -> Probe
+pub fn load_probe(words: &[u64]) -> Option<PrefixProbe>
     requires { length words.now ≡ 4096 }
     ensures { result ≡ probe_of (word head_probe (decode words.now)) (word head_probe_owner (decode words.now)) (word head_probe_accepted (decode words.now)) }
 {
@@ -208,18 +232,24 @@ pub fn load_probe(words: &[u64]) -> Probe
 }
 
 // `probe_words`
-fn probe_list(p: Probe, n: u64) -> [u64; 4]
+fn probe_list(p: Option<PrefixProbe>, n: u64) -> [u64; 4]
     requires { probe_fits p }
     ensures { result ≡ probe_words p n }
 {
     match p {
-        Probe::NoProbe => [0, 0, n, 0],
-        Probe::Probing(owner, accepted, started) => [started + 1, owner, n, accepted],
+        None => [0, 0, n, 0],
+        Some(
+            PrefixProbe {
+                owner,
+                accepted,
+                started,
+            },
+        ) => [started + 1, owner, n, accepted],
     }
 }
 
 // A probe and the number of its hashes.
-pub fn store_probe(words: &mut [u64], p: Probe, n: u64)
+pub fn store_probe(words: &mut [u64], p: Option<PrefixProbe>, n: u64)
     requires { (length words.old ≡ 4096) × probe_fits p }
     ensures { decode words.new ≡ with_words head_probe (probe_words p n) (decode words.old) }
 {

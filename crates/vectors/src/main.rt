@@ -54,28 +54,30 @@ fn told(rt: &impl Print, differing: u64, number: u64, kind: u64, q: Same) -> io:
     Ok(wrapping_add_u64(differing, 1))
 }
 
+// Calls at most.
+const MOST: u64 = 100_000;
+
 fn replay(
     rt: &impl Print,
     words: &mut [u64],
     expected: &mut [u64],
     numbers: &[u64],
 ) -> io::Result<Count> {
-    let mut calls: u64 = 0;
     let mut differing: u64 = 0;
     let mut at: u64 = 0;
-    let mut turns: u64 = 100_000;
-    while 0 < turns {
+    for calls in 0..MOST {
         let r = record_at(numbers, at);
         if r.kind == 0 {
             return Ok(Count { calls, differing });
         }
         let q = one(words, expected, numbers, r);
-        calls = wrapping_add_u64(calls, 1);
-        differing = told(rt, differing, calls, r.kind, q)?;
+        differing = told(rt, differing, calls + 1, r.kind, q)?;
         at = r.next;
-        turns -= 1;
     }
-    Ok(Count { calls, differing })
+    Ok(Count {
+        calls: MOST,
+        differing,
+    })
 }
 
 fn blank() -> [u64; 4096] {
@@ -95,6 +97,7 @@ fn report(rt: &impl Print, c: Count) -> io::Result<()> {
 }
 
 // Reads until the room is full or the input ends; how many bytes were read.
+// A while, no method of std: `read_exact` refuses an input that ends sooner, and `read_to_end` grows a Vec, where this room is fixed.
 fn read_full(input: &mut impl Read, bytes: &mut [u8]) -> io::Result<usize>
     ensures { IfOk result (λ n. n ≤ length bytes.new) }
 {

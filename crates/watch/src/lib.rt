@@ -7,80 +7,114 @@ ghost use Rattle.model.specs.Window.{Window};
 ghost use Rattle.model.specs.Observation.{stuck_anew, stuck_still, evicted_by, advance_apply_side_stuck, is_above, blocks, stalled_since, armed_by};
 ghost use Rattle.watch.specs.Answers.{stepped, timeout_answer};
 
-use model::{
-    Blocked, Entry, Front, Hash, Height, Observation, Settings, Sought, Source, Stall, Stuck,
-};
+use model::{Blocked, Entry, Hash, Observation, Settings, StallEpisode, StuckFrontier};
 
 // What the stuck step leaves, and what it answers.
 #[derive(Clone, Copy)]
 pub struct Stepped {
-    pub stuck: Stuck,
+    pub stuck: Option<StuckFrontier>,
     pub answer: Blocked,
 }
 
 // ---- the stuck frontier
 
 // `stuck_anew`
-fn stuck_anew(height: u64, h: Hash, busy: bool, clock: u64) -> Stuck
+fn stuck_anew(height: u64, h: Hash, busy: bool, clock: u64) -> Option<StuckFrontier>
     ensures { result ≡ stuck_anew height h busy clock }
 {
     if busy {
-        return Stuck::StuckAt(height, h, clock);
+        return Some(StuckFrontier {
+            height,
+            front: h,
+            since: clock,
+        });
     }
-    Stuck::Moving
+    None
 }
 
 // `stuck_still`
-fn stuck_still(s: Stuck, height: u64, h: Hash, busy: bool, clock: u64) -> Stuck
+fn stuck_still(
+    s: Option<StuckFrontier>,
+    height: u64,
+    h: Hash,
+    busy: bool,
+    clock: u64,
+) -> Option<StuckFrontier>
     ensures { result ≡ stuck_still s height h busy clock }
 {
-    let Stuck::StuckAt(n, x, since) = s else {
+    let Some(
+        StuckFrontier {
+            height: n,
+            front: x,
+            since,
+        },
+    ) = s
+    else {
         return stuck_anew(height, h, busy, clock);
     };
     if hash::same_both(n, height, x, h) {
-        return Stuck::StuckAt(n, x, since);
+        return Some(StuckFrontier {
+            height: n,
+            front: x,
+            since,
+        });
     }
     stuck_anew(height, h, busy, clock)
 }
 
 // `evicted_by`: suppressed for the bound or longer, it is evicted and counts anew.
-fn evicted_by(s: Stuck, height: u64, h: Hash, bound: u64, clock: u64) -> Stepped
+fn evicted_by(s: Option<StuckFrontier>, height: u64, h: Hash, bound: u64, clock: u64) -> Stepped
     ensures { result ≡ stepped height (evicted_by s h bound clock) }
 {
-    let Stuck::StuckAt(n, x, since) = s else {
+    let Some(
+        StuckFrontier {
+            height: n,
+            front: x,
+            since,
+        },
+    ) = s
+    else {
         return Stepped {
-            stuck: Stuck::Moving,
+            stuck: None,
             answer: Blocked::NoDecision,
         };
     };
     let suppressed = numbers::minus(clock, since);
     if suppressed < bound {
         return Stepped {
-            stuck: Stuck::StuckAt(n, x, since),
+            stuck: Some(StuckFrontier {
+                height: n,
+                front: x,
+                since,
+            }),
             answer: Blocked::NoDecision,
         };
     }
     Stepped {
-        stuck: Stuck::StuckAt(n, x, clock),
+        stuck: Some(StuckFrontier {
+            height: n,
+            front: x,
+            since: clock,
+        }),
         answer: Blocked::EvictStaged(height, h, suppressed),
     }
 }
 
 // `advance_apply_side_stuck` of a window with this stuck frontier and received timeout.
 pub fn apply_side_stuck(
-    s: Stuck,
+    s: Option<StuckFrontier>,
     timeout: u64,
     height: u64,
-    frontier: Sought,
+    frontier: Option<Hash>,
     busy: bool,
     clock: u64,
 ) -> Stepped
     requires { timeout ≤ max_duration }
     ensures { (w : Window) → w.watch.stuck ≡ s → w.settings.received_timeout ≡ timeout → result ≡ stepped height (advance_apply_side_stuck height frontier busy clock w) }
 {
-    let Sought::Exactly(h) = frontier else {
+    let Some(h) = frontier else {
         return Stepped {
-            stuck: Stuck::Moving,
+            stuck: None,
             answer: Blocked::NoDecision,
         };
     };
@@ -97,17 +131,17 @@ pub fn apply_side_stuck(
 // ---- the stall
 
 // `is_above`
-fn is_above(highest: Height, n: u64) -> bool
+fn is_above(highest: Option<u64>, n: u64) -> bool
     ensures { result ≡ is_above highest n }
 {
-    let Height::Known(h) = highest else {
+    let Some(h) = highest else {
         return false;
     };
     n < h
 }
 
 // `blocks` in a window with these settings: the front is next, enough is staged, and something above it.
-pub fn blocks(next: u64, staged: u64, highest: Height, e: Entry, b: Settings) -> bool
+pub fn blocks(next: u64, staged: u64, highest: Option<u64>, e: Entry, b: Settings) -> bool
     ensures { (w : Window) → w.settings ≡ b → result ≡ blocks next staged highest e w }
 {
     if e.height != next {
@@ -120,10 +154,17 @@ pub fn blocks(next: u64, staged: u64, highest: Height, e: Entry, b: Settings) ->
 }
 
 // `stalled_since`
-pub fn stalled_since(s: Stall, e: Entry, clock: u64) -> u64
+pub fn stalled_since(s: Option<StallEpisode>, e: Entry, clock: u64) -> u64
     ensures { result ≡ stalled_since s e clock }
 {
-    let Stall::Episode(owner, front, since) = s else {
+    let Some(
+        StallEpisode {
+            owner,
+            front,
+            since,
+        },
+    ) = s
+    else {
         return clock;
     };
     let h = e.hash;
@@ -136,10 +177,10 @@ pub fn stalled_since(s: Stall, e: Entry, clock: u64) -> u64
 // ---- the pending timeout
 
 // `armed_by`
-pub fn armed_by(lowest: Front) -> Observation
+pub fn armed_by(lowest: Option<Entry>) -> Observation
     ensures { result ≡ armed_by lowest }
 {
-    let Front::At(e) = lowest else {
+    let Some(e) = lowest else {
         return Observation::Unarmed;
     };
     let h = e.hash;
@@ -147,10 +188,10 @@ pub fn armed_by(lowest: Front) -> Observation
 }
 
 // `timeout_answer`: the first blame answers, else the hedge.
-pub fn timeout_answer(blamed: Source, hedge: Blocked) -> Blocked
+pub fn timeout_answer(blamed: Option<u64>, hedge: Blocked) -> Blocked
     ensures { result ≡ timeout_answer blamed hedge }
 {
-    let Source::From(owner) = blamed else {
+    let Some(owner) = blamed else {
         return hedge;
     };
     Blocked::BlamePendingTimeout(owner)

@@ -7,389 +7,253 @@ ghost use Rattle.model.specs.Queries.{reads, perhaps, source_values, probe_value
 ghost use Rattle.model.specs.Perform.{says, perform};
 ghost use Rattle.model.specs.Says.{number_says, pair_says, perhaps_says, perhaps_pair_says, truth_says};
 ghost use Rattle.model.specs.Lists.{pad};
-ghost use Rattle.capacity.specs.OnNumbers.{batch_says};
 ghost use Rattle.plans.specs.Answers.{planned_part, plan_answer_says};
 
-use capacity::Batch;
-use model::{Hash, Number, Pair, Perhaps, PerhapsPair, Plan, Probe, Source, Truth, limits, sizes};
+use model::{Hash, PrefixProbe, Refusal, limits, sizes};
 use plans::PlanAnswer;
 
 // How many blocks are pending.
-pub fn pending_len(words: &[u64]) -> Number
+pub fn pending_len(words: &[u64]) -> Result<u64, Refusal>
     ensures { number_says result ≡ (perform (queries (reads pending_len)) words.now []).answer }
 {
-    let n = admission::refused_by(words, true);
-    if n != 0 {
-        return Number::Refused(n);
-    }
-    let x = state_queue::pending_count(words);
-    Number::Is(x as u64)
+    admission::refused_by(words, true)?;
+    Ok(state_queue::pending_count(words) as u64)
 }
 
 // Their estimates in bytes, all together.
-pub fn pending_bytes(words: &[u64]) -> Number
+pub fn pending_bytes(words: &[u64]) -> Result<u64, Refusal>
     ensures { number_says result ≡ (perform (queries (reads pending_bytes)) words.now []).answer }
 {
-    let n = admission::refused_by(words, true);
-    if n != 0 {
-        return Number::Refused(n);
-    }
-    let x = state::get_total(words);
-    Number::Is(x)
+    admission::refused_by(words, true)?;
+    Ok(state::get_total(words))
 }
 
 // How many blocks a peer may have in flight.
-pub fn effective_peer_inflight(words: &[u64]) -> Number
+pub fn effective_peer_inflight(words: &[u64]) -> Result<u64, Refusal>
     ensures { number_says result ≡ (perform (queries (reads peer_inflight)) words.now []).answer }
 {
-    let n = admission::refused_by(words, true);
-    if n != 0 {
-        return Number::Refused(n);
-    }
-    let x = queries::effective_peer_inflight(words);
-    Number::Is(x)
+    admission::refused_by(words, true)?;
+    Ok(queries::effective_peer_inflight(words))
 }
 
 // How many seats have blocks pending.
-pub fn active_downloading_peers(words: &[u64]) -> Number
+pub fn active_downloading_peers(words: &[u64]) -> Result<u64, Refusal>
     ensures { number_says result ≡ (perform (queries (reads active_peers)) words.now []).answer }
 {
-    let n = admission::refused_by(words, true);
-    if n != 0 {
-        return Number::Refused(n);
-    }
-    let x = state::active_peers(words);
-    Number::Is(x)
+    admission::refused_by(words, true)?;
+    Ok(state::active_peers(words))
 }
 
 // The least that the stall wait decays to.
-pub fn stall_decay_floor(words: &[u64]) -> Number
+pub fn stall_decay_floor(words: &[u64]) -> Result<u64, Refusal>
     ensures { number_says result ≡ (perform (queries (reads decay_floor)) words.now []).answer }
 {
-    let n = admission::refused_by(words, true);
-    if n != 0 {
-        return Number::Refused(n);
-    }
-    let x = queries::stall_decay_floor(words);
-    Number::Is(x)
+    admission::refused_by(words, true)?;
+    Ok(queries::stall_decay_floor(words))
 }
 
 // The frontier: the next height to ask for.
-pub fn request_cursor(words: &[u64]) -> Number
+pub fn request_cursor(words: &[u64]) -> Result<u64, Refusal>
     ensures { number_says result ≡ (perform (queries (reads request_cursor)) words.now []).answer }
 {
-    let n = admission::refused_by(words, true);
-    if n != 0 {
-        return Number::Refused(n);
-    }
-    let x = state::get_frontier(words);
-    Number::Is(x)
+    admission::refused_by(words, true)?;
+    Ok(state::get_frontier(words))
 }
 
 // The mean of a block in bytes.
-pub fn ewma_block_bytes(words: &[u64]) -> Number
+pub fn ewma_block_bytes(words: &[u64]) -> Result<u64, Refusal>
     ensures { number_says result ≡ (perform (queries (reads ewma_block_bytes)) words.now []).answer }
 {
-    let n = admission::refused_by(words, true);
-    if n != 0 {
-        return Number::Refused(n);
-    }
-    let x = state::get_mean(words);
-    Number::Is(x)
+    admission::refused_by(words, true)?;
+    Ok(state::get_mean(words))
 }
 
 // How many blocks are pending with a seat.
-pub fn pending_count_for(words: &[u64], seat: u64) -> Number
+pub fn pending_count_for(words: &[u64], seat: u64) -> Result<u64, Refusal>
     ensures { number_says result ≡ (perform (queries (asks_count_for seat)) words.now []).answer }
 {
-    let n = admission::refused_by(words, seat <= limits::MAX_SEAT);
-    if n != 0 {
-        return Number::Refused(n);
-    }
-    let x = state_queue::pending_count_for(words, seat);
-    Number::Is(x)
+    admission::refused_by(words, seat <= limits::MAX_SEAT)?;
+    Ok(state_queue::pending_count_for(words, seat))
 }
 
 // Whether more may be asked for.
-pub fn has_request_capacity(words: &[u64], byte_headroom: u64, count_headroom: u64) -> Truth
+pub fn has_request_capacity(
+    words: &[u64],
+    byte_headroom: u64,
+    count_headroom: u64,
+) -> Result<bool, Refusal>
     ensures { truth_says result ≡ (perform (queries (asks_request_capacity byte_headroom count_headroom)) words.now []).answer }
 {
-    let n = admission::refused_by(words, true);
-    if n != 0 {
-        return Truth::Refused(n);
-    }
-    if queries::has_request_capacity(words, byte_headroom, count_headroom) {
-        return Truth::Affirmed;
-    }
-    Truth::Denied
+    admission::refused_by(words, true)?;
+    Ok(queries::has_request_capacity(words, byte_headroom, count_headroom))
 }
 
 // Whether the block of a hash is pending.
-pub fn contains_pending(words: &[u64], h: Hash) -> Truth
+pub fn contains_pending(words: &[u64], h: Hash) -> Result<bool, Refusal>
     ensures { truth_says result ≡ (perform (queries (asks_contains h)) words.now []).answer }
 {
-    let n = admission::refused_by(words, true);
-    if n != 0 {
-        return Truth::Refused(n);
-    }
-    if queries::contains_pending(words, h) {
-        return Truth::Affirmed;
-    }
-    Truth::Denied
+    admission::refused_by(words, true)?;
+    Ok(queries::contains_pending(words, h))
 }
 
 // Whether a seat has blocks pending.
-pub fn is_downloading(words: &[u64], seat: u64) -> Truth
+pub fn is_downloading(words: &[u64], seat: u64) -> Result<bool, Refusal>
     ensures { truth_says result ≡ (perform (queries (asks_downloading seat)) words.now []).answer }
 {
-    let n = admission::refused_by(words, seat <= limits::MAX_SEAT);
-    if n != 0 {
-        return Truth::Refused(n);
-    }
-    if queries::is_downloading(words, seat as usize) {
-        return Truth::Affirmed;
-    }
-    Truth::Denied
+    admission::refused_by(words, seat <= limits::MAX_SEAT)?;
+    Ok(queries::is_downloading(words, seat as usize))
 }
 
 // How long an owner may take: by the window's own active seats.
-pub fn effective_owner_timeout(words: &[u64]) -> Number
+pub fn effective_owner_timeout(words: &[u64]) -> Result<u64, Refusal>
     ensures { number_says result ≡ (perform (queries (reads owner_timeout)) words.now []).answer }
 {
-    let n = admission::refused_by(words, true);
-    if n != 0 {
-        return Number::Refused(n);
-    }
-    let x = sweep::timeout_of(words);
-    Number::Is(x)
+    admission::refused_by(words, true)?;
+    Ok(sweep::timeout_of(words))
 }
 
 // Whether a seat races for this hash as the alternate of a cold front.
-pub fn hedge_offered(words: &[u64], seat: u64, h: Hash) -> Truth
+pub fn hedge_offered(words: &[u64], seat: u64, h: Hash) -> Result<bool, Refusal>
     ensures { truth_says result ≡ (perform (queries (asks_hedge_offered seat h)) words.now []).answer }
 {
-    let n = admission::refused_by(words, seat <= limits::MAX_SEAT);
-    if n != 0 {
-        return Truth::Refused(n);
-    }
-    if cold_front::hedge_offered(words, seat, h) {
-        return Truth::Affirmed;
-    }
-    Truth::Denied
+    admission::refused_by(words, seat <= limits::MAX_SEAT)?;
+    Ok(cold_front::hedge_offered(words, seat, h))
 }
 
 // Whether a seat has blocks that are past its time.
-pub fn peer_has_expired_pending(words: &[u64], seat: u64, clock: u64) -> Truth
+pub fn peer_has_expired_pending(words: &[u64], seat: u64, clock: u64) -> Result<bool, Refusal>
     ensures { truth_says result ≡ (perform (queries (asks_has_expired seat clock)) words.now []).answer }
 {
-    let n = admission::refused_by_at(words, clock, seat <= limits::MAX_SEAT);
-    if n != 0 {
-        return Truth::Refused(n);
-    }
-    if sweep::peer_has_expired_pending(words, seat as usize, clock) {
-        return Truth::Affirmed;
-    }
-    Truth::Denied
+    admission::refused_by_at(words, clock, seat <= limits::MAX_SEAT)?;
+    Ok(sweep::peer_has_expired_pending(words, seat as usize, clock))
 }
 
 // Whether the key of a seat is cooling.
-pub fn peer_in_staller_cooldown(words: &[u64], seat: u64, clock: u64) -> Truth
+pub fn peer_in_staller_cooldown(words: &[u64], seat: u64, clock: u64) -> Result<bool, Refusal>
     ensures { truth_says result ≡ (perform (queries (asks_cooldown seat clock)) words.now []).answer }
 {
-    let n = admission::refused_by_at(words, clock, seat <= limits::MAX_SEAT);
-    if n != 0 {
-        return Truth::Refused(n);
-    }
-    if state_cooling::in_cooldown(words, seat as usize, clock) {
-        return Truth::Affirmed;
-    }
-    Truth::Denied
+    admission::refused_by_at(words, clock, seat <= limits::MAX_SEAT)?;
+    Ok(state_cooling::in_cooldown(words, seat as usize, clock))
 }
 
 // The most that was pending: blocks, and bytes.
-pub fn pending_high_water(words: &[u64]) -> Pair
+pub fn pending_high_water(words: &[u64]) -> Result<(u64, u64), Refusal>
     ensures { pair_says result ≡ (perform (queries (reads pending_high_water)) words.now []).answer }
 {
-    let n = admission::refused_by(words, true);
-    if n != 0 {
-        return Pair::Refused(n);
-    }
+    admission::refused_by(words, true)?;
     let x = state::get_high_blocks(words);
     let y = state::get_high_bytes(words);
-    Pair::Both(x, y)
+    Ok((x, y))
 }
 
 // The key of the stalling seat, and since when.
-pub fn stalling_peer(words: &[u64]) -> PerhapsPair
+pub fn stalling_peer(words: &[u64]) -> Result<Option<(u64, u64)>, Refusal>
     ensures { perhaps_pair_says result ≡ (perform (queries (reads stalling_peer)) words.now []).answer }
 {
-    let n = admission::refused_by(words, true);
-    if n != 0 {
-        return PerhapsPair::Refused(n);
-    }
-    queries::stalling_peer(words)
+    admission::refused_by(words, true)?;
+    Ok(queries::stalling_peer(words))
 }
 
 // The stall wait.
-pub fn stall_timeout(words: &[u64]) -> Number
+pub fn stall_timeout(words: &[u64]) -> Result<u64, Refusal>
     ensures { number_says result ≡ (perform (queries (reads stall_timeout)) words.now []).answer }
 {
-    let n = admission::refused_by(words, true);
-    if n != 0 {
-        return Number::Refused(n);
-    }
+    admission::refused_by(words, true)?;
     let p = state::get_pace(words);
-    Number::Is(p.wait)
+    Ok(p.wait)
 }
 
 // The setting of that name.
-pub fn max_pending_blocks(words: &[u64]) -> Number
+pub fn max_pending_blocks(words: &[u64]) -> Result<u64, Refusal>
     ensures { number_says result ≡ (perform (queries (reads max_pending_blocks)) words.now []).answer }
 {
-    let n = admission::refused_by(words, true);
-    if n != 0 {
-        return Number::Refused(n);
-    }
+    admission::refused_by(words, true)?;
     let p = state::get_settings(words);
-    Number::Is(p.max_pending_blocks)
+    Ok(p.max_pending_blocks)
 }
 
 // The setting of that name.
-pub fn min_peers_for_fanout(words: &[u64]) -> Number
+pub fn min_peers_for_fanout(words: &[u64]) -> Result<u64, Refusal>
     ensures { number_says result ≡ (perform (queries (reads min_peers_for_fanout)) words.now []).answer }
 {
-    let n = admission::refused_by(words, true);
-    if n != 0 {
-        return Number::Refused(n);
-    }
+    admission::refused_by(words, true)?;
     let p = state::get_settings(words);
-    Number::Is(p.min_peers_for_fanout)
+    Ok(p.min_peers_for_fanout)
 }
 
 // Whether requests fan out.
-pub fn fanout_active(words: &[u64]) -> Truth
+pub fn fanout_active(words: &[u64]) -> Result<bool, Refusal>
     ensures { truth_says result ≡ (perform (queries (reads fanout_active)) words.now []).answer }
 {
-    let n = admission::refused_by(words, true);
-    if n != 0 {
-        return Truth::Refused(n);
-    }
+    admission::refused_by(words, true)?;
     let f = state::get_fanout(words);
-    if f.engaged {
-        return Truth::Affirmed;
-    }
-    Truth::Denied
+    Ok(f.engaged)
 }
 
 // The forecast: blocks and bytes that expired owners hold.
-pub fn expired_pending_capacity(words: &[u64], clock: u64) -> Pair
+pub fn expired_pending_capacity(words: &[u64], clock: u64) -> Result<(u64, u64), Refusal>
     ensures { pair_says result ≡ (perform (queries (asks_expired_capacity clock)) words.now []).answer }
 {
-    let n = admission::refused_by_at(words, clock, true);
-    if n != 0 {
-        return Pair::Refused(n);
-    }
+    admission::refused_by_at(words, clock, true)?;
     let f = sweep::expired_pending_capacity(words, clock);
-    Pair::Both(f.blocks, f.bytes)
+    Ok((f.blocks, f.bytes))
 }
 
 // ---- what may be missing
 
-// A stored number, 0 for none.
-fn perhaps_stored(x: u64) -> Perhaps
-    ensures { perhaps_says result ≡ says 0 (perhaps x) }
+// A stored number, 0 for none and n + 1 for n.
+fn perhaps_stored(x: u64) -> Option<u64>
+    ensures { source_values result ≡ perhaps x }
 {
-    if x == 0 {
-        return Perhaps::Absent;
-    }
-    Perhaps::Present(x - 1)
+    x.checked_sub(1)
 }
 
-fn perhaps_seat(s: Source) -> Perhaps
-    ensures { perhaps_says result ≡ says 0 (source_values s) }
+fn started_of(p: Option<PrefixProbe>) -> Option<u64>
+    ensures { source_values result ≡ probe_values p }
 {
-    match s {
-        Source::Missing => Perhaps::Absent,
-        Source::From(seat) => Perhaps::Present(seat),
-    }
-}
-
-fn perhaps_started(p: Probe) -> Perhaps
-    ensures { perhaps_says result ≡ says 0 (probe_values p) }
-{
-    match p {
-        Probe::NoProbe => Perhaps::Absent,
-        Probe::Probing(_, _, started) => Perhaps::Present(started),
-    }
-}
-
-fn perhaps_batch(b: Batch) -> PerhapsPair
-    ensures { perhaps_pair_says result ≡ says 0 (capacity_values (batch_says b)) }
-{
-    match b {
-        Batch::Nothing => PerhapsPair::Neither,
-        Batch::Upto(blocks, bytes) => PerhapsPair::Together(blocks, bytes),
-    }
+    p.map(|x| x.started)
 }
 
 // The seat that is asked first, where there is one.
-pub fn preferred_peer(words: &[u64]) -> Perhaps
+pub fn preferred_peer(words: &[u64]) -> Result<Option<u64>, Refusal>
     ensures { perhaps_says result ≡ (perform (queries (reads preferred_peer)) words.now []).answer }
 {
-    let n = admission::refused_by(words, true);
-    if n != 0 {
-        return Perhaps::Refused(n);
-    }
-    let s = state::get_preferred(words);
-    perhaps_seat(s)
+    admission::refused_by(words, true)?;
+    Ok(state::get_preferred(words))
 }
 
 // The seat that the block of a hash is pending with, if it is pending.
-pub fn pending_owner(words: &[u64], h: Hash) -> Perhaps
+pub fn pending_owner(words: &[u64], h: Hash) -> Result<Option<u64>, Refusal>
     ensures { perhaps_says result ≡ (perform (queries (asks_owner h)) words.now []).answer }
 {
-    let n = admission::refused_by(words, true);
-    if n != 0 {
-        return Perhaps::Refused(n);
-    }
-    let s = queries::pending_owner(words, h);
-    perhaps_seat(s)
+    admission::refused_by(words, true)?;
+    Ok(queries::pending_owner(words, h))
 }
 
 // When the prefix probe started, if one runs.
-pub fn active_prefix_probe_started_at(words: &[u64]) -> Perhaps
+pub fn active_prefix_probe_started_at(words: &[u64]) -> Result<Option<u64>, Refusal>
     ensures { perhaps_says result ≡ (perform (queries (reads probe_start)) words.now []).answer }
 {
-    let n = admission::refused_by(words, true);
-    if n != 0 {
-        return Perhaps::Refused(n);
-    }
-    let p = state_races::get_probe(words);
-    perhaps_started(p)
+    admission::refused_by(words, true)?;
+    Ok(started_of(state_races::get_probe(words)))
 }
 
 // The mean time between fronts, once there was one.
-pub fn front_interval_ewma_ms(words: &[u64]) -> Perhaps
+pub fn front_interval_ewma_ms(words: &[u64]) -> Result<Option<u64>, Refusal>
     ensures { perhaps_says result ≡ (perform (queries (reads front_interval_ewma_ms)) words.now []).answer }
 {
-    let n = admission::refused_by(words, true);
-    if n != 0 {
-        return Perhaps::Refused(n);
-    }
+    admission::refused_by(words, true)?;
     let p = state::get_pace(words);
-    perhaps_stored(p.mean)
+    Ok(perhaps_stored(p.mean))
 }
 
 // Since when a seat has blocks pending, if it has.
-pub fn owner_queue_start(words: &[u64], seat: u64) -> Perhaps
+pub fn owner_queue_start(words: &[u64], seat: u64) -> Result<Option<u64>, Refusal>
     ensures { perhaps_says result ≡ (perform (queries (asks_queue_start seat)) words.now []).answer }
 {
-    let n = admission::refused_by(words, seat <= limits::MAX_SEAT);
-    if n != 0 {
-        return Perhaps::Refused(n);
-    }
+    admission::refused_by(words, seat <= limits::MAX_SEAT)?;
     let t = state::start_of(words, seat as usize);
-    perhaps_stored(t)
+    Ok(perhaps_stored(t))
 }
 
 // How many blocks, and bytes, may be asked of a seat at once, if any.
@@ -398,29 +262,20 @@ pub fn compute_request_capacity(
     source: u64,
     byte_headroom: u64,
     count_headroom: u64,
-) -> PerhapsPair
+) -> Result<Option<(u64, u64)>, Refusal>
     ensures { perhaps_pair_says result ≡ (perform (queries (asks_compute_capacity source byte_headroom count_headroom)) words.now []).answer }
 {
-    let n = admission::refused_by(words, source <= limits::MAX_SEAT);
-    if n != 0 {
-        return PerhapsPair::Refused(n);
-    }
+    admission::refused_by(words, source <= limits::MAX_SEAT)?;
     let b = queries::compute_request_capacity(words, source, byte_headroom, count_headroom);
-    perhaps_batch(b)
+    Ok(b)
 }
 
 // Whether a seat races for this hash in the prefix probe.
-pub fn probe_offered(words: &[u64], source: u64, h: Hash) -> Truth
+pub fn probe_offered(words: &[u64], source: u64, h: Hash) -> Result<bool, Refusal>
     ensures { truth_says result ≡ (perform (queries (asks_probe_offered source h)) words.now []).answer }
 {
-    let n = admission::refused_by(words, source <= limits::MAX_SEAT);
-    if n != 0 {
-        return Truth::Refused(n);
-    }
-    if probe_plan::probe_offered(words, source, h) {
-        return Truth::Affirmed;
-    }
-    Truth::Denied
+    admission::refused_by(words, source <= limits::MAX_SEAT)?;
+    Ok(probe_plan::probe_offered(words, source, h))
 }
 
 // The plan of a prefix probe, if any: owner, number of hashes, end height, and the words of the hashes, 0 after them.
@@ -428,12 +283,11 @@ pub fn prefix_probe_plan(words: &[u64]) -> PlanAnswer
     ensures { (plan_answer_says result ≡ (perform (queries (reads probe_plan)) words.now []).answer)
         × (result.hashes ≡ pad 32 0 (planned_part result)) }
 {
-    let n = admission::refused_by(words, true);
-    if n != 0 {
-        return PlanAnswer {
-            plan: Plan::Refused(n),
+    match admission::refused_by(words, true) {
+        Err(r) => PlanAnswer {
+            plan: Err(r),
             hashes: [0; sizes::PLANNED_WORDS],
-        };
+        },
+        Ok(()) => probe_hashes::prefix_probe_plan(words),
     }
-    probe_hashes::prefix_probe_plan(words)
 }

@@ -16,11 +16,11 @@ fn hash(hash: &Hash) -> String {
 }
 
 fn source(seat: Option<u64>) -> String {
-    seat.map_or("Missing".to_string(), |seat| format!("(From {seat})"))
+    seat.map_or("None".to_string(), |seat| format!("(Some {seat})"))
 }
 
 fn height(height: Option<u32>) -> String {
-    height.map_or("Unknown".to_string(), |height| format!("(Known {height})"))
+    height.map_or("None".to_string(), |height| format!("(Some {height})"))
 }
 
 fn settings(settings: &Settings) -> String {
@@ -94,7 +94,7 @@ fn race_or_look(call: &Call) -> Option<String> {
         }
         Call::ConfirmColdFrontHedge { owner, alternate, hash: h } => format!("confirms_hedge {owner} {alternate} {}", hash(h)),
         Call::ObserveBlocked { clock, next_apply_height, frontier_hash, busy, staged_count, staged_height } => {
-            let frontier = frontier_hash.as_ref().map_or("NoHash".to_string(), |h| format!("(Exactly {})", hash(h)));
+            let frontier = frontier_hash.as_ref().map_or("None".to_string(), |h| format!("(Some {})", hash(h)));
             format!(
                 "observes {clock} (look {} {frontier} {busy} {staged_count} {})",
                 height(*next_apply_height),

@@ -1,27 +1,17 @@
 -- `admission::keys_fit` meets its contract. Assumes nothing.
-use Prim.Native.Nat.{◌-◌}
-use native.Mathlib.Omega.{arith}
-use Rattle.admission.specs.Opening.{keys_few, keys_start, keys_wrong, keys_next, keys_done}
-use borrow.Author.Rules.{rules}
+use Rattle.std.proofs.Common.{◌∙◌, sym, length, ne_eqb, rules}
+use borrow.Author.Tests.{tests}
+use Rattle.std.proofs.lemmas.Iterator.{YieldsList-from_slice}
+use Rattle.std.proofs.lemmas.Iterator.Search.{all_from_yields_List}
+use Rattle.model.specs.Refusals.{seat_ok}
+use Rattle.admission.proofs.Seats.{all_seats}
+use Rattle.admission.specs.Opening.{keys_few, keys_start}
 use Rattle.admission.proofs.keys_fit.Goals as goal
 
-pub returns-then-keys-ne-SEATS : goal.returns-then-keys-ne-SEATS
-returns-then-keys-ne-SEATS c = keys_few c.args.keys.now c.if-keys-ne-SEATS.true
+pub returns-then-keys-eq-SEATS : goal.returns-then-keys-eq-SEATS
+returns-then-keys-eq-SEATS c =
+    let keys = c.args.keys.now in
+    all_from_yields_List seat_ok _ _ _ c.all.ensures.ran (YieldsList-from_slice keys cc) (λ x b q k. search (rules, tests)) ∙ all_seats keys ∙ sym (keys_start keys c.if-keys-eq-SEATS.true)
 
-pub loop-i-init : goal.loop-i-init
-loop-i-init c = (omega arith, keys_start c.args.keys.now c.if-keys-ne-SEATS.false)
-
-pub returns-then-keys-i-gt-MAX_SEAT : goal.returns-then-keys-i-gt-MAX_SEAT
-returns-then-keys-i-gt-MAX_SEAT c =
-    let l = c.loop-i in
-    keys_wrong c.args.keys.now c.if-keys-ne-SEATS.false l.i l.invariant.1 (omega (arith, c.loop-i-test.true)) (omega (arith, c.if-keys-i-gt-MAX_SEAT.true))
-
-pub loop-i-preserved : goal.loop-i-preserved
-loop-i-preserved c =
-    let l = c.loop-i in
-    (search rules, keys_next c.args.keys.now c.if-keys-ne-SEATS.false l.i l.invariant.1 (omega (arith, c.loop-i-test.true)) (omega (arith, c.if-keys-i-gt-MAX_SEAT.false)))
-
-pub returns : goal.returns
-returns c =
-    let l = c.loop-i in
-    keys_done c.args.keys.now c.if-keys-ne-SEATS.false l.i l.invariant.1 (omega (arith, l.invariant.0, c.loop-i-test.false))
+pub returns-else-keys-eq-SEATS : goal.returns-else-keys-eq-SEATS
+returns-else-keys-eq-SEATS c = let keys = c.args.keys.now in ne_eqb (length keys) 256 c.if-keys-eq-SEATS.false ∙ keys_few keys c.if-keys-eq-SEATS.false

@@ -35,10 +35,7 @@ turn ws t i j v e h a n q f =
 pub loop-i-init : goal.loop-i-init
 loop-i-init c =
     let l = (window_of c.args.words.now).queue.pending in
-    (omega arith, (refl, none (drop c.args.count l) (drop_of_length-le l {i = c.args.count} (omega arith))))
-
-pub overflow_sub-i : goal.overflow_sub-i
-overflow_sub-i c = omega arith
+    (refl, none (drop c.args.count l) (drop_of_length-le l {i = c.args.count} (omega arith)))
 
 pub overflow_add-o : goal.overflow_add-o
 overflow_add-o c = omega (arith, pending_few c.args.words.now)
@@ -73,19 +70,16 @@ offset_bounds-left-owner-in-loop-i c = omega (arith, seat_at c.args.words.now (c
 pub bounds-left-owner-in-loop-i : goal.bounds-left-owner-in-loop-i
 bounds-left-owner-in-loop-i c = omega (arith, seat_at c.args.words.now (c.loop-i.i - 1) (omega arith) c.requires.1.1)
 
-pub loop-i-smaller : goal.loop-i-smaller
-loop-i-smaller c = omega arith
-
 pub loop-i-preserved : goal.loop-i-preserved
 loop-i-preserved c =
     let v = c.loop-i in
     let ws = c.args.words.now in
     let h : v.i - 1 < length (window_of ws).queue.pending = omega arith in
     let e : v.i ≡ suc (v.i - 1) = omega arith in
-    (omega arith, (simp length-set v.invariant.1.0, turn ws v.left v.i (v.i - 1) c.sooner_stored.result e h c.requires.1.1 v.invariant.1.0 c.sooner_stored.ensures v.invariant.1.1))
+    (simp length-set v.invariant.0, turn ws v.left v.i (v.i - 1) c.sooner_stored.result e h c.requires.1.1 v.invariant.0 c.sooner_stored.ensures v.invariant.1)
 
 pub returns : goal.returns
 returns c =
     let v = c.loop-i in
     let z : v.i ≡ 0 = omega arith in
-    rw z at v.invariant.1.1
+    rw z at v.invariant.1

@@ -20,19 +20,7 @@ in_range n i core h a = went_at (InRange max_clock) n (n - suc i) i core (omega 
 
 pub loop-i-init : goal.loop-i-init
 unfolding releases_of resets
-loop-i-init c = (omega arith, (refl, seats_own c.args.words.now))
-
-pub overflow_mul-a : goal.overflow_mul-a
-overflow_mul-a c = omega arith
-
-pub overflow_add-o : goal.overflow_add-o
-overflow_add-o c = omega arith
-
-pub offset_bounds-gone-a : goal.offset_bounds-gone-a
-offset_bounds-gone-a c = omega arith
-
-pub bounds-gone-a : goal.bounds-gone-a
-bounds-gone-a c = omega arith
+loop-i-init c = (refl, seats_own c.args.words.now)
 
 pub offset_bounds-left-owner : goal.offset_bounds-left-owner
 offset_bounds-left-owner c =
@@ -44,25 +32,11 @@ bounds-left-owner c =
     let p = c.requires.1.1.1.1.0 in
     omega (arith, (in_range c.args.n c.loop-i.i c.args.gone.now (omega arith) p).owner)
 
-pub overflow_add-a : goal.overflow_add-a
-overflow_add-a c = omega arith
-
-pub offset_bounds-gone-a-in-loop-i : goal.offset_bounds-gone-a-in-loop-i
-offset_bounds-gone-a-in-loop-i c = omega arith
-
-pub bounds-gone-a-in-loop-i : goal.bounds-gone-a-in-loop-i
-bounds-gone-a-in-loop-i c = omega arith
-
 pub reset_owner_queue_start-requires : goal.reset_owner_queue_start-requires
 reset_owner_queue_start-requires c =
     let r = in_range c.args.n c.loop-i.i c.args.gone.now (omega arith) c.requires.1.1.1.1.0 in
-    (omega arith, (omega (arith, r.owner), (omega arith, r.time)))
-
-pub overflow_add-i : goal.overflow_add-i
-overflow_add-i c = omega arith
-
-pub loop-i-smaller : goal.loop-i-smaller
-loop-i-smaller c = omega arith
+    let v = c.loop-i.invariant in
+    (omega (arith, v.0), (omega (arith, r.owner), (omega arith, r.time)))
 
 pub loop-i-preserved : goal.loop-i-preserved
 loop-i-preserved c =
@@ -71,13 +45,10 @@ loop-i-preserved c =
     let p = c.requires.1.1.1.1 in
     let r = in_range a.n v.i a.gone.now (omega arith) p.0 in
     let old = c.left_of-l.ensures ∙ p.1 (get_or a.gone.now (9 * v.i + 4) 0) (omega (arith, r.owner)) in
-    rw add-one (omega arith, (c.reset_owner_queue_start.auto.words ∙ v.invariant.1.0, reset_turn a.clock v.i (stored c.left_of-l.result) a.gone.now (window_of a.words.now).queue (decode a.words.now) (decode v.words) (decode c.reset_owner_queue_start.new.words) v.invariant.1.1 old c.reset_owner_queue_start.ensures))
-
-pub shape_of-words : goal.shape_of-words
-shape_of-words c = c.loop-i.invariant.1.0
+    rw add-one (c.reset_owner_queue_start.auto.words ∙ v.invariant.0, reset_turn a.clock v.i (stored c.left_of-l.result) a.gone.now (window_of a.words.now).queue (decode a.words.now) (decode v.words) (decode c.reset_owner_queue_start.new.words) v.invariant.1 old c.reset_owner_queue_start.ensures)
 
 pub returns : goal.returns
 returns c =
     let v = c.loop-i in
     let e : v.i ≡ c.args.n = omega arith in
-    rw e at v.invariant.1.1
+    rw e at v.invariant.1

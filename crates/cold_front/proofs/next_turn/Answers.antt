@@ -17,4 +17,4 @@ pub returns-in_default : goal.returns-in_default
 returns-in_default c = c.idle-in_default.ensures ∙ turn_none c.args.next c.args.clock (window_of c.args.words.now) c.get_cold-cold.result c.get_cold-cold.ensures (sym c.is_racing.ensures ∙ c.if-is_racing.false) c.get_pace-pace.result c.get_pace-pace.ensures c.if-pace-ne0.false c.hedged_count.result c.hedged_count.ensures c.if-hedged_count-ge-MAX_COLD_FRONT_HEDGES.false c.at_height-lowest.result c.at_height-lowest.ensures c.in_default.is
 
 pub returns : goal.returns
-returns c = c.wait_on.ensures ∙ turn_at c.args.next c.args.clock (window_of c.args.words.now) c.get_cold-cold.result c.get_cold-cold.ensures (sym c.is_racing.ensures ∙ c.if-is_racing.false) c.get_pace-pace.result c.get_pace-pace.ensures c.if-pace-ne0.false c.hedged_count.result c.hedged_count.ensures c.if-hedged_count-ge-MAX_COLD_FRONT_HEDGES.false c.at_height-lowest.result c.at_height-lowest.ensures _ c.get_settings-s.result c.in-At.is c.get_settings-s.ensures
+returns c = c.wait_on.ensures ∙ turn_at c.args.next c.args.clock (window_of c.args.words.now) c.get_cold-cold.result c.get_cold-cold.ensures (sym c.is_racing.ensures ∙ c.if-is_racing.false) c.get_pace-pace.result c.get_pace-pace.ensures c.if-pace-ne0.false c.hedged_count.result c.hedged_count.ensures c.if-hedged_count-ge-MAX_COLD_FRONT_HEDGES.false c.at_height-lowest.result c.at_height-lowest.ensures _ c.get_settings-s.result c.in-Some.is c.get_settings-s.ensures

@@ -36,7 +36,6 @@ keep l ms col i j h n m inv =
     let rest = keep_by (drop (suc i) ms) (drop (suc i) l) in
     record {
       ahead = omega (arith, inv.ahead);
-      within = h;
       long = simp length-set inv.long;
       rest = rest_after l ms col i j h inv;
       is =
@@ -53,7 +52,6 @@ skip l ms col i j h n m inv =
     let rest = keep_by (drop (suc i) ms) (drop (suc i) l) in
     record {
       ahead = omega (arith, inv.ahead);
-      within = h;
       long = simp length-set inv.long;
       rest = rest_after l ms col i j h inv;
       is =
@@ -87,58 +85,21 @@ done l ms col i j n e inv =
     λ k. front k ++ replicate (many k) 0
 
 pub loop-i-init : goal.loop-i-init
-loop-i-init c = record { ahead = omega arith; within = omega arith; long = refl; rest = λ k h. refl; is = refl }
-
-pub offset_bounds-col-i : goal.offset_bounds-col-i
-offset_bounds-col-i c = omega arith
-
-pub bounds-col-i : goal.bounds-col-i
-bounds-col-i c = omega arith
-
-pub offset_bounds-col-j : goal.offset_bounds-col-j
-offset_bounds-col-j c = omega arith
-
-pub bounds-col-j : goal.bounds-col-j
-bounds-col-j c = omega arith
-
-pub offset_bounds-marks-i : goal.offset_bounds-marks-i
-offset_bounds-marks-i c = omega arith
-
-pub bounds-marks-i : goal.bounds-marks-i
-bounds-marks-i c = omega arith
+loop-i-init c = record { ahead = omega arith; long = refl; rest = λ k h. refl; is = refl }
 
 pub overflow_add-j : goal.overflow_add-j
 overflow_add-j c =
     let m = get_or c.args.marks.now c.loop-i.i 0 in
-    omega (arith, c.places_on-s.ensures, one_at_most (eqb m 0), c.loop-i.invariant.ahead)
-
-pub overflow_add-i : goal.overflow_add-i
-overflow_add-i c = omega arith
-
-pub loop-i-smaller : goal.loop-i-smaller
-loop-i-smaller c = omega arith
+    omega (arith, c.places_on-j.ensures, one_at_most (eqb m 0), c.loop-i.invariant.ahead)
 
 pub loop-i-preserved : goal.loop-i-preserved
 loop-i-preserved c =
-    let at-loop = c in
-    let at-start = at-loop in
-    let inv = at-loop.loop-i.invariant in
-    turn at-start.args.col.now at-start.args.marks.now at-loop.loop-i.col at-loop.loop-i.i at-loop.loop-i.j c.places_on-s.result
-    (omega (arith, inv.long)) at-start.requires c.places_on-s.ensures inv
-
-pub clear_from-requires : goal.clear_from-requires
-clear_from-requires c = omega arith
-
-pub shape_of-col : goal.shape_of-col
-shape_of-col c = omega arith
+    let a = c.args in
+    let l = c.loop-i in
+    turn a.col.now a.marks.now l.col l.i l.j c.places_on-j.result (omega (arith, c.requires)) c.requires c.places_on-j.ensures l.invariant
 
 pub returns : goal.returns
 returns c =
-    let at_call = c in
-    let at-end = at_call in
-    let at-loop = at-end in
-    let at-start = at-loop in
-    let inv = at-loop.loop-i.invariant in
-    let e : at-loop.loop-i.i ≡ length at-start.args.col.now = omega (arith, inv.long, inv.within) in
-    at_call.clear_from.ensures
-    ∙ done at-start.args.col.now at-start.args.marks.now at-loop.loop-i.col at-loop.loop-i.i at-loop.loop-i.j at-start.requires e inv
+    let a = c.args in
+    let l = c.loop-i in
+    c.clear_from.ensures ∙ done a.col.now a.marks.now l.col l.i l.j c.requires (omega (arith, c.requires)) l.invariant

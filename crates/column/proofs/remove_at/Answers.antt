@@ -9,18 +9,6 @@ use Rattle.column.proofs.Parts.{rest_of, put_rest}
 use Rattle.column.proofs.Laws.{removed_rest}
 use Rattle.column.proofs.remove_at.Goals as goal
 
-pub offset_bounds-col-at : goal.offset_bounds-col-at
-offset_bounds-col-at c = omega arith
-
-pub slice_bounds-remove_first-count : goal.slice_bounds-remove_first-count
-slice_bounds-remove_first-count c = omega arith
-
-pub slice_bounds-remove_first-start : goal.slice_bounds-remove_first-start
-slice_bounds-remove_first-start c = omega arith
-
-pub slice_bounds-remove_first-end : goal.slice_bounds-remove_first-end
-slice_bounds-remove_first-end c = omega arith
-
 pub returns : goal.returns
 returns c =
     let at_call = c in

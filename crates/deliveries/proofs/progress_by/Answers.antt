@@ -2,8 +2,8 @@
 use Rattle.laws.specs.Whole.{holds_whole}
 use Rattle.deliveries.proofs.progress_by.Goals as goal
 
-pub returns-in-Unknown : goal.returns-in-Unknown
-returns-in-Unknown c = rw c.in-Unknown.is (holds_whole c.args.words.now c.requires.0)
+pub returns-in_default : goal.returns-in_default
+returns-in_default c = rw c.in_default.is (holds_whole c.args.words.now c.requires.0)
 
-pub returns-in-Known : goal.returns-in-Known
-returns-in-Known c = rw c.in-Known.is c.record_delivery_progress.ensures
+pub returns-in-Some : goal.returns-in-Some
+returns-in-Some c = rw c.in-Some.is c.record_delivery_progress.ensures

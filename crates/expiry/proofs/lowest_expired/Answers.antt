@@ -1,8 +1,8 @@
 -- `expiry::lowest_expired` meets its contract. Assumes nothing.
+use Rattle.std.specs.Prelude.{Some}
 use mathlib.Core.Path.{sym, ap, ◌∙◌}
 use native.Mathlib.Omega.{arith}
 use borrow.Author.Tests.{lt-ltb, le-ltb}
-use Rattle.model.specs.declared.Front.TheVariants.{At}
 use Rattle.records.specs.Places.{front_at}
 use Rattle.state_queue.specs.Steps.{entry_is}
 use Rattle.expiry.specs.Late.{spacing_le, seated, expired_is}
@@ -27,7 +27,7 @@ returns-then-at-n c =
     let at = at_place.lowest_late-at.result in
     sym (sym (expired_is start.args.clock ws count.result at_place.owner_timeout-timeout.result start.requires.0 count.ensures.0 at_place.owner_timeout-timeout.ensures)
     ∙ at_place.lowest_late-at.ensures ∙ rw (lt-ltb at count.result c.if-at-n.true)
-    (ap At (entry_is ws start.requires.0 at (omega (arith, c.if-at-n.true, count.ensures.0)) ∙ sym c.entry_at-e.ensures)))
+    (ap Some (entry_is ws start.requires.0 at (omega (arith, c.if-at-n.true, count.ensures.0)) ∙ sym c.entry_at-e.ensures)))
 
 pub returns : goal.returns
 unfolding front_at

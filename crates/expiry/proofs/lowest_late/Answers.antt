@@ -1,4 +1,5 @@
 -- `expiry::lowest_late` meets its contract: at the loop's head `best` is the place of the lowest late record from i on. Assumes nothing.
+use Rattle.std.specs.Prelude.{Some}
 use mathlib.Core.Path.{◌≡◌, refl, sym, ap, ◌∙◌}
 use mathlib.Core.Logic.{inl, inr}
 use mathlib.Core.Bool.{Bool, true, false}
@@ -13,7 +14,6 @@ use Rattle.model.specs.Layout.{entry_at, rows, decode}
 use Rattle.laws.specs.Numbers.{both}
 use Rattle.laws.specs.Rows.{rows_at, live_cons, live_end, word_at}
 use Rattle.model.specs.declared.Entry.{Entry}
-use Rattle.model.specs.declared.Front.TheVariants.{At}
 use Rattle.records.specs.Places.{front_at}
 use Rattle.expiry.specs.Late.{late}
 use Rattle.expiry.proofs.lowest_late.Invariants.{from, Lowest, none, some}
@@ -58,38 +58,20 @@ done : (p : Entry → Bool) (ws : List ℕ) (m best low i : ℕ) → i ≡ 0 →
     → lowest (select p (take m (rows 256 ws))) ≡ front_at m best (rows 256 ws)
 unfolding front_at
 done p ws m best low i z k (none a b f) = rw (le-ltb best m (omega (arith, a))) (ap (from p ws m) (sym z) ∙ f)
-done p ws m best low i z k (some a f g) = rw (lt-ltb best m a) (ap (from p ws m) (sym z) ∙ f ∙ ap At (sym (rows_at 256 best ws (omega arith))))
-
-pub expiry_limit-limit-requires : goal.expiry_limit-limit-requires
-expiry_limit-limit-requires c = c.requires.2
+done p ws m best low i z k (some a f g) = rw (lt-ltb best m a) (ap (from p ws m) (sym z) ∙ f ∙ ap Some (sym (rows_at 256 best ws (omega arith))))
 
 pub loop-i-init : goal.loop-i-init
 unfolding lowest select
 loop-i-init c =
     let a = c.args in
     let ws = a.words.now in
-    (omega arith, none refl refl (ap (λ (l : List Entry). lowest (select (late a.clock a.timeout (decode ws).starts) l)) (live_end a.count ws (omega arith))))
-
-pub overflow_sub-i : goal.overflow_sub-i
-overflow_sub-i c = omega arith
-
-pub overflow_add-g : goal.overflow_add-g
-overflow_add-g c = omega arith
-
-pub offset_bounds-words-i : goal.offset_bounds-words-i
-offset_bounds-words-i c = omega arith
-
-pub bounds-words-i : goal.bounds-words-i
-bounds-words-i c = omega arith
+    none refl refl (ap (λ (l : List Entry). lowest (select (late a.clock a.timeout (decode ws).starts) l)) (live_end a.count ws (omega arith)))
 
 pub is_late-requires : goal.is_late-requires
 is_late-requires c =
     let at-loop = c in
     let start = at-loop in
     (start.requires.0, omega arith, start.requires.3 (at-loop.loop-i.i - 1) (omega arith))
-
-pub loop-i-smaller-then-is_late : goal.loop-i-smaller-then-is_late
-loop-i-smaller-then-is_late c = omega arith
 
 pub loop-i-preserved-then-is_late : goal.loop-i-preserved-then-is_late
 loop-i-preserved-then-is_late c =
@@ -98,10 +80,7 @@ loop-i-preserved-then-is_late c =
     let limit = at-loop.expiry_limit-limit.ensures in
     let l = at-loop.loop-i in
     let p = late a.clock a.timeout (decode a.words.now).starts in
-    (omega arith, down p a.words.now a.count l.i (l.i - 1) (omega arith) (omega arith) (omega arith) l.best l.low (omega (arith, c.if-g-low.true)) (sym (c.is_late.ensures a.clock a.timeout limit) ∙ c.if-is_late.true) l.invariant.1)
-
-pub loop-i-smaller-else-is_late : goal.loop-i-smaller-else-is_late
-loop-i-smaller-else-is_late c = omega arith
+    down p a.words.now a.count l.i (l.i - 1) (omega arith) (omega arith) (omega arith) l.best l.low (omega (arith, c.if-g-low.true)) (sym (c.is_late.ensures a.clock a.timeout limit) ∙ c.if-is_late.true) l.invariant
 
 pub loop-i-preserved-else-is_late : goal.loop-i-preserved-else-is_late
 loop-i-preserved-else-is_late c =
@@ -110,10 +89,7 @@ loop-i-preserved-else-is_late c =
     let limit = at-loop.expiry_limit-limit.ensures in
     let l = at-loop.loop-i in
     let p = late a.clock a.timeout (decode a.words.now).starts in
-    (omega arith, passes p a.words.now a.count l.i (l.i - 1) (omega arith) (omega arith) (omega arith) l.best l.low (sym (c.is_late.ensures a.clock a.timeout limit) ∙ c.if-is_late.false) l.invariant.1)
-
-pub loop-i-smaller : goal.loop-i-smaller
-loop-i-smaller c = omega arith
+    passes p a.words.now a.count l.i (l.i - 1) (omega arith) (omega arith) (omega arith) l.best l.low (sym (c.is_late.ensures a.clock a.timeout limit) ∙ c.if-is_late.false) l.invariant
 
 pub loop-i-preserved : goal.loop-i-preserved
 loop-i-preserved c =
@@ -122,11 +98,11 @@ loop-i-preserved c =
     let l = at-loop.loop-i in
     let p = late a.clock a.timeout (decode a.words.now).starts in
     let fits = c.shared_slice_known-in-loop-i-1.given (l.i - 1 + 1536) in
-    (omega arith, stays p a.words.now a.count l.i (l.i - 1) (omega arith) (omega arith) (omega arith) l.best l.low c.if-g-low.false (omega (arith, fits)) l.invariant.1)
+    stays p a.words.now a.count l.i (l.i - 1) (omega arith) (omega arith) (omega arith) l.best l.low c.if-g-low.false (omega (arith, fits)) l.invariant
 
 pub returns : goal.returns
 unfolding decode
 returns c =
     let l = c.loop-i in
     let a = c.args in
-    done (late a.clock a.timeout (decode a.words.now).starts) a.words.now a.count l.best l.low l.i (omega arith) (omega arith) l.invariant.1
+    done (late a.clock a.timeout (decode a.words.now).starts) a.words.now a.count l.best l.low l.i (omega arith) (omega arith) l.invariant

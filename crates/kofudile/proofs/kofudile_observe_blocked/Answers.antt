@@ -11,8 +11,8 @@ pub returns : goal.returns
 returns c =
     let a = c.args in
     let ws = a.words.now in
-    let next = c.height_of-at.ensures in
-    let frontier = c.sought_of-hash.ensures in
-    let highest = c.height_of-top.ensures in
+    let next = c.then_some-at.ensures in
+    let frontier = c.then_some-hash.ensures in
+    let highest = c.then_some-top.ensures in
     let e = c.observe_blocked.ensures in
     (c.of_blocked.ensures ∙ ap blocked_flat (e.0 ∙ (λ i. (perform (changes (observes a.clock (look (next i) (frontier i) a.busy a.staged (highest i)))) ws []).answer)), e.1 ∙ (λ i. (perform (changes (observes a.clock (look (next i) (frontier i) a.busy a.staged (highest i)))) ws []).words))

@@ -1,7 +1,8 @@
 -- `ledger::one_more` meets its contract. Assumes nothing.
-use mathlib.Core.Path.{refl}
+use mathlib.Core.Path.{refl, ◌∙◌}
 use native.Mathlib.Omega.{arith}
 use Rattle.ledger.specs.Book.{one_more}
+use Rattle.ledger.proofs.Sums.{capped_is}
 use Rattle.ledger.proofs.one_more.Goals as goal
 
 pub offset_bounds-l-k : goal.offset_bounds-l-k
@@ -18,4 +19,4 @@ bounds-m-k c = omega (arith, c.place_of-k.ensures.1)
 
 pub returns : goal.returns
 unfolding one_more
-returns c = rw (c.plus.ensures, c.place_of-k.ensures.0) refl
+returns c = rw (c.saturating_add.ensures ∙ capped_is _ _, c.place_of-k.ensures.0) refl

@@ -18,49 +18,17 @@ turn in_bytes gone l m m' i w v e f =
 
 pub loop-i-init : goal.loop-i-init
 unfolding tallied
-loop-i-init c = (omega arith, c.at_most-most.ensures.1, c.at_most-most.ensures.0, refl)
-
-pub overflow_mul-k : goal.overflow_mul-k
-overflow_mul-k c = omega arith
-
-pub overflow_add-k : goal.overflow_add-k
-overflow_add-k c = omega arith
-
-pub offset_bounds-gone-k : goal.offset_bounds-gone-k
-offset_bounds-gone-k c = omega arith
-
-pub bounds-gone-k : goal.bounds-gone-k
-bounds-gone-k c = omega arith
-
-pub overflow_add-k-in-loop-i : goal.overflow_add-k-in-loop-i
-overflow_add-k-in-loop-i c = omega arith
-
-pub offset_bounds-gone-k-in-loop-i : goal.offset_bounds-gone-k-in-loop-i
-offset_bounds-gone-k-in-loop-i c = omega arith
-
-pub bounds-gone-k-in-loop-i : goal.bounds-gone-k-in-loop-i
-bounds-gone-k-in-loop-i c = omega arith
-
-pub overflow_add-i : goal.overflow_add-i
-overflow_add-i c = omega arith
-
-pub loop-i-smaller : goal.loop-i-smaller
-loop-i-smaller c = omega arith
+loop-i-init c = refl
 
 pub loop-i-preserved : goal.loop-i-preserved
 loop-i-preserved c =
     let v = c.loop-i in
     let a = c.args in
-    rw add-one (
-      omega arith,
-      v.invariant.1,
-      v.invariant.2,
-      turn a.bytes a.gone a.l v.m c.one_more-x.result v.i c.weight.result v.invariant.3 c.weight.ensures c.one_more-x.ensures,
-    )
+    rw add-one (turn a.bytes a.gone a.l v.m c.one_more-x.result v.i c.weight.result v.invariant c.weight.ensures c.one_more-x.ensures)
 
 pub returns : goal.returns
 returns c =
     let v = c.loop-i in
     let a = c.args in
-    let e : v.i ≡ lesser a.n 256 = omega (arith, v.invariant.0, v.invariant.2) in
-    v.invariant.3 ∙ ap (λ (i : ℕ). tallied a.bytes a.gone i a.l) e
+    let e : v.i ≡ lesser a.n 256 = omega (arith, c.at_most-i-end.ensures.0) in
+    v.invariant ∙ ap (λ (i : ℕ). tallied a.bytes a.gone i a.l) e

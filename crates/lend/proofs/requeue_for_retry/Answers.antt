@@ -4,4 +4,4 @@ use Rattle.lend.proofs.Lends.{lends}
 use Rattle.lend.proofs.requeue_for_retry.Goals as goal
 
 pub returns : goal.returns
-returns c = lends _ _ _ let_go_says _ _ _ _ _ _ c.unfilled-report.ensures c.of_let_go.ensures c.requeue_for_retry-answer.ensures
+returns c = lends _ _ _ let_go_says _ _ _ _ _ _ _ c.unfilled-report.ensures c.with_report.ensures c.places_of-n.ensures c.requeue_for_retry-answer.ensures

@@ -17,26 +17,17 @@ use Rattle.lend.proofs.words_of.Goals as goal
 one : (report : List Release) (gone gone' : List ℕ) (i : ℕ) → length report ≡ 256 → i < 256 → length gone' ≡ length gone
     → releases_of (suc i) gone' ≡ releases_of i gone ++ (release (get_or report i blank).entry (get_or report i blank).reason ∷ []) → Inv report gone i → Inv report gone' (suc i)
 one report gone gone' i n h long w v =
-    (omega arith, long ∙ v.1, w ∙ ap (λ (l : List Release). l ++ (get_or report i blank ∷ [])) v.2 ∙ sym (take-suc report i blank (omega (arith, n))))
+    (long ∙ v.0, w ∙ ap (λ (l : List Release). l ++ (get_or report i blank ∷ [])) v.1 ∙ sym (take-suc report i blank (omega (arith, n))))
 
 pub loop-i-init : goal.loop-i-init
 unfolding releases_of
-loop-i-init c = (omega arith, refl, refl)
-
-pub offset_bounds-report-i : goal.offset_bounds-report-i
-offset_bounds-report-i c = omega arith
+loop-i-init c = (refl, refl)
 
 pub slice_bounds-put_release-end : goal.slice_bounds-put_release-end
-slice_bounds-put_release-end c = sym c.loop-i.invariant.1
+slice_bounds-put_release-end c = sym c.loop-i.invariant.0
 
 pub put_release-requires : goal.put_release-requires
-put_release-requires c = omega (arith, c.loop-i.invariant.1)
-
-pub overflow_add-i : goal.overflow_add-i
-overflow_add-i c = omega arith
-
-pub loop-i-smaller : goal.loop-i-smaller
-loop-i-smaller c = omega arith
+put_release-requires c = omega (arith, c.loop-i.invariant.0)
 
 pub loop-i-preserved : goal.loop-i-preserved
 loop-i-preserved c =
@@ -48,6 +39,6 @@ pub returns : goal.returns
 returns c =
     let v = c.loop-i in
     let a = c.args in
-    let e : v.i ≡ 256 = omega (arith, v.invariant.0) in
+    let e : v.i ≡ 256 = omega arith in
     let n : length a.report ≡ 256 = search rules in
-    ap (λ (i : ℕ). releases_of i v.gone) (sym e) ∙ v.invariant.2 ∙ take_all v.i a.report (omega (arith, n, e))
+    ap (λ (i : ℕ). releases_of i v.gone) (sym e) ∙ v.invariant.1 ∙ take_all v.i a.report (omega (arith, n, e))

@@ -4,25 +4,25 @@ use native.Mathlib.Omega.{arith}
 use Rattle.model.specs.Numbers.{read_clock}
 use Rattle.model.specs.Refusals.{Change, checks, requeues}
 use Rattle.refusals.specs.Outcomes.{admitted}
-use Rattle.heights.specs.Heights.{wide}
-use Rattle.letting_go.specs.Letting.{lets_refused}
+use Rattle.letting_go.specs.Letting.{lets_passed}
 use Rattle.letting_go.proofs.Steps.{lets_step}
 use Rattle.letting_go.proofs.requeue_for_retry.Goals.{Start}
 use Rattle.letting_go.proofs.requeue_for_retry.Goals as goal
 
 -- the change that it is
 abbrev is : Start → Change
-is s = requeues s.args.clock s.args.h (wide s.args.named)
+is s = requeues s.args.clock s.args.h s.args.named
 
-pub returns-then-k-ne0 : goal.returns-then-k-ne0
-returns-then-k-ne0 c = lets_refused _ (is (goal.at.returns-then-k-ne0 c).Start) _ _ _ c.report_refused_by-k.ensures _ c.if-k-ne0.true
+pub returns-in_err-report_refused_by : goal.returns-in_err-report_refused_by
+returns-in_err-report_refused_by c =
+    lets_passed _ _ c.from_residual.ensures.1 _ _ (is (goal.at.returns-in_err-report_refused_by c).Start) _ _ _ c.in_err-report_refused_by.ensures
 
 pub requeue_for_retry-n-requires : goal.requeue_for_retry-n-requires
 unfolding read_clock
 requeue_for_retry-n-requires c =
     let at = c in
     let s = at in
-    let g = admitted (checks (is (goal.at.requeue_for_retry-n-requires c).Start)) _ _ _ at.report_refused_by-k.ensures at.if-k-ne0.false in
+    let g = admitted (checks (is (goal.at.requeue_for_retry-n-requires c).Start)) _ _ _ at.in_ok-report_refused_by.ensures refl in
     (g.whole, (g.sound_at, omega (arith, s.requires)))
 
 pub gone_at-requires : goal.gone_at-requires
@@ -32,5 +32,5 @@ pub returns : goal.returns
 returns c =
     let at = c in
     let s = at in
-    lets_step (is (goal.at.returns c).Start) _ _ _ at.report_refused_by-k.ensures at.if-k-ne0.false refl _ refl _ 1 s.requires (omega arith)
+    lets_step (is (goal.at.returns c).Start) _ _ _ at.in_ok-report_refused_by.ensures refl refl _ refl _ 1 s.requires (omega arith)
     (ap (requeues s.args.clock s.args.h) c.widened-height.ensures.0) _ _ _ _ _ c.requeue_for_retry-n.ensures c.gone_at.ensures

@@ -1,5 +1,5 @@
 -- `listed::chained` meets its contract: what is left to look at is a chain of its bucket. Assumes nothing.
-use Rattle.std.proofs.Common.{ℕ, ◌+◌, ◌-◌, ◌<◌, ◌≤◌, length, get_or, sym, refl, ap, ◌∙◌, arith}
+use Rattle.std.proofs.Common.{ℕ, ◌-◌, ◌<◌, ◌≤◌, length, get_or, sym, refl, ap, ◌∙◌, arith}
 use Rattle.model.specs.Hash.{hash}
 use Rattle.model.specs.declared.Hash.{Hash}
 use Rattle.hash.specs.Words.{Words}
@@ -36,63 +36,54 @@ bounds-index-head c =
     let k : c.bucket-head.result < 1024 = is_below _ _ c.bucket-head.ensures in
     omega (arith, c.requires.0.sized.0)
 
-pub overflow_cast-j : goal.overflow_cast-j
-overflow_cast-j c = omega (arith, c.shared_slice_known-3-1.given c.bucket-head.result)
-
-pub loop-j-init : goal.loop-j-init
-loop-j-init c =
-    let s = (goal.at.loop-j-init c).Start in
+pub loop-i-init : goal.loop-i-init
+loop-i-init c =
+    let s = (goal.at.loop-i-init c).Start in
     chain_start (wanted s) (asked s) _ (λ i. (c.shared_slice_known-2-1.given i).fits) _ _ s.requires.0 _
     (ap (λ (b : ℕ). get_or s.args.index.now b 0) c.bucket-head.ensures)
-
-pub overflow_sub-i : goal.overflow_sub-i
-overflow_sub-i c = omega arith
 
 pub is_at-requires : goal.is_at-requires
 is_at-requires c =
     let s = (goal.at.is_at-requires c).Start in
-    omega (arith, (few s).0, c.loop-j.invariant.0, s.requires.1)
+    omega (arith, (few s).0, c.loop-i.invariant.0, s.requires.1)
 
 pub returns-then-is_at : goal.returns-then-is_at
 returns-then-is_at c =
     let s = (goal.at.returns-then-is_at c).Start in
-    let at = c.loop-j in
-    sym (named_at (wanted s) s.args.list.now (linking s) (omega (arith, (few s).0, s.requires.1)) (at.j - 1) (omega (arith, at.invariant.0))
+    let at = c.loop-i in
+    sym (named_at (wanted s) s.args.list.now (linking s) (omega (arith, (few s).0, s.requires.1)) c.in-Some.i (omega (arith, at.invariant.0))
     (sym c.is_at.ensures ∙ c.if-is_at.true))
 
 pub overflow_add-j : goal.overflow_add-j
 overflow_add-j c =
     let s = (goal.at.overflow_add-j c).Start in
-    omega (arith, (few s).1, c.loop-j.invariant.0)
+    omega (arith, (few s).1, c.loop-i.invariant.0)
 
 pub offset_bounds-index-i : goal.offset_bounds-index-i
 offset_bounds-index-i c =
     let s = (goal.at.offset_bounds-index-i c).Start in
-    omega (arith, (few s).1, c.loop-j.invariant.0, s.well_formed)
+    omega (arith, (few s).1, c.loop-i.invariant.0, s.well_formed)
 
 pub bounds-index-i : goal.bounds-index-i
 bounds-index-i c =
     let s = (goal.at.bounds-index-i c).Start in
-    omega (arith, (few s).1, c.loop-j.invariant.0)
+    omega (arith, (few s).1, c.loop-i.invariant.0)
 
-pub overflow_cast-j-in-loop-j : goal.overflow_cast-j-in-loop-j
-overflow_cast-j-in-loop-j c = omega (arith, c.shared_slice_known-in-loop-j-1.given (1024 + (c.loop-j.j - 1)))
+pub loop-i-smaller : goal.loop-i-smaller
+loop-i-smaller c =
+    let s = (goal.at.loop-i-smaller c).Start in
+    let at = c.loop-i in
+    next_less s.args.n s.args.list.now s.args.index.now s.requires.0 at.j c.in-Some.i at.invariant.0 (omega arith) (omega arith)
 
-pub loop-j-smaller : goal.loop-j-smaller
-loop-j-smaller c =
-    let s = (goal.at.loop-j-smaller c).Start in
-    let at = c.loop-j in
-    next_less s.args.n s.args.list.now s.args.index.now s.requires.0 at.j (at.j - 1) at.invariant.0 (omega arith) (omega arith)
-
-pub loop-j-preserved : goal.loop-j-preserved
-loop-j-preserved c =
-    let s = (goal.at.loop-j-preserved c).Start in
-    let at = c.loop-j in
+pub loop-i-preserved : goal.loop-i-preserved
+loop-i-preserved c =
+    let s = (goal.at.loop-i-preserved c).Start in
+    let at = c.loop-i in
     chain_next (wanted s) (asked s) _ (λ i. (c.shared_slice_known-2-1.given i).fits)
-    _ _ s.requires.0 at.j (at.j - 1) at.invariant (omega arith) refl (sym c.is_at.ensures ∙ c.if-is_at.false) _ refl
+    _ _ s.requires.0 at.j c.in-Some.i at.invariant (omega arith) (omega arith) (sym c.is_at.ensures ∙ c.if-is_at.false) _ refl
 
 pub returns : goal.returns
 returns c =
     let s = (goal.at.returns c).Start in
-    let at = c.loop-j in
+    let at = c.loop-i in
     sym (named_none (wanted s) s.args.list.now (linking s) (omega (arith, (few s).0, s.requires.1)) (λ k h. at.invariant.1.1 k (omega arith) h))

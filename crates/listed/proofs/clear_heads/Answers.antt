@@ -1,28 +1,13 @@
--- `listed::clear_heads` meets its contract: the heads before b are 0. Assumes nothing.
-use Rattle.std.proofs.Common.{◌-◌, arith, length-set}
-use Rattle.listed.specs.Laws.{zeros_more}
+-- `listed::clear_heads` meets its contract: what `fill` leaves is so many zeros. Assumes nothing.
+use Rattle.std.proofs.Common.{◌≡◌, ℕ, List, length, take, get_or, ap, ◌∙◌, arith, length-take-le}
+use Rattle.std.proofs.Math.ListN.{get_or-append}
+use Rattle.std.proofs.lemmas.List.{get_or-replicate}
 use Rattle.listed.proofs.clear_heads.Goals as goal
 
-pub loop-b-init : goal.loop-b-init
-loop-b-init c = (omega arith, (omega arith, λ k h. absurd (omega arith)))
-
-pub offset_bounds-index-b : goal.offset_bounds-index-b
-offset_bounds-index-b c = omega arith
-
-pub bounds-index-b : goal.bounds-index-b
-bounds-index-b c = omega arith
-
-pub overflow_add-b : goal.overflow_add-b
-overflow_add-b c = omega arith
-
-pub loop-b-smaller : goal.loop-b-smaller
-loop-b-smaller c = omega arith
-
-pub loop-b-preserved : goal.loop-b-preserved
-loop-b-preserved c = (simp length-set (omega arith), (omega arith, zeros_more c.loop-b.b c.loop-b.index (omega arith) c.loop-b.invariant.1.1))
-
-pub shape_of-index : goal.shape_of-index
-shape_of-index c = omega arith
-
 pub returns : goal.returns
-returns c = λ k h. c.loop-b.invariant.1.1 k (omega (arith, h))
+returns c = λ k h.
+    let heads = c.fill.new.self in
+    let few : length (take 1024 c.args.index.now) ≡ 1024 = length-take-le 1024 c.args.index.now c.requires in
+    get_or-append heads _ 0 k (omega (arith, c.fill.ensures.len))
+    ∙ ap (λ (l : List ℕ). get_or l k 0) (c.fill.ensures.after (λ y e. e))
+    ∙ get_or-replicate _ k 0 0 (omega arith)

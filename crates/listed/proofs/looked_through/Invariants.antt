@@ -1,11 +1,8 @@
 -- `listed::looked_through` meets its contract: the hash is at no place before i. Assumes nothing.
-use Rattle.std.proofs.Common.{◌≡◌, ◌-◌, ◌≤◌, false, take}
+use Rattle.std.proofs.Common.{◌≡◌, false, take}
 use Rattle.model.specs.Lists.{any}
 use Rattle.model.specs.Hash.{hash, hashes_in, same}
 use Rattle.listed.proofs.looked_through.Given as goal
 
 abbrev pub invariant-loop-i : goal.invariant-loop-i
-invariant-loop-i l = (l.i ≤ l.n) × (any (same (hash l.a l.b l.c l.d)) (take l.i (hashes_in l.list)) ≡ false)
-
-abbrev pub decreases-loop-i : goal.decreases-loop-i
-decreases-loop-i l = l.n - l.i
+invariant-loop-i l = any (same (hash l.a l.b l.c l.d)) (take l.i (hashes_in l.list)) ≡ false

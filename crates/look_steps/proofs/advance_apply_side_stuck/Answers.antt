@@ -1,10 +1,11 @@
 -- `look_steps::advance_apply_side_stuck` meets its contract. Assumes nothing.
+use Rattle.std.specs.Prelude.{Option}
 use mathlib.Core.Path.{sym, ap, subst}
 use Rattle.model.specs.Layout.{window_of}
 use Rattle.model.specs.Observation.{advance_apply_side_stuck}
 use Rattle.model.specs.Window.{with_stuck}
 use Rattle.model.specs.declared.Settings.{Settings}
-use Rattle.model.specs.declared.Stuck.{Stuck}
+use Rattle.model.specs.declared.StuckFrontier.{StuckFrontier}
 use Rattle.laws.specs.LooksKept.{stuck_sound}
 use Rattle.laws.specs.Whole.{Holds}
 use Rattle.states.specs.Fits.{stuck_fits}
@@ -30,4 +31,4 @@ pub returns : goal.returns
 returns c =
     let w = window_of c.args.words.now in
     let e = c.apply_side_stuck-step.ensures w (sym c.get_stuck-stuck.ensures) (ap (λ (b : Settings). b.received_timeout) (sym c.get_settings-b.ensures)) in
-    (subst (λ (s : Stuck). Holds (with_stuck s w) c.set_stuck.new.words) (ap (λ (x : Stepped). x.stuck) e) c.set_stuck.ensures, ap (λ (x : Stepped). x.answer) e)
+    (subst (λ (s : Option StuckFrontier). Holds (with_stuck s w) c.set_stuck.new.words) (ap (λ (x : Stepped). x.stuck) e) c.set_stuck.ensures, ap (λ (x : Stepped). x.answer) e)

@@ -1,4 +1,5 @@
 -- `look_steps::stall_at` meets its contract. Assumes nothing.
+use Rattle.std.specs.Prelude.{None, Option}
 use mathlib.Core.Path.{sym, ap, subst, ◌∙◌}
 use native.Mathlib.Omega.{arith}
 use lib.Dec.{ltb}
@@ -9,8 +10,7 @@ use Rattle.model.specs.Pace.{effective_stall_timeout, wait_widened}
 use Rattle.model.specs.Observation.{stalled_since}
 use Rattle.model.specs.Window.{with_stall, with_pace}
 use Rattle.model.specs.declared.Pace.{Pace}
-use Rattle.model.specs.declared.Stall.{Stall}
-use Rattle.model.specs.declared.Stall.TheVariants.{Calm}
+use Rattle.model.specs.declared.StallEpisode.{StallEpisode}
 use Rattle.laws.specs.Every.{most_le}
 use Rattle.laws.specs.LooksKept.{since_le}
 use Rattle.laws.specs.Sound.{SoundStall}
@@ -25,7 +25,7 @@ pub set_stall-requires : goal.set_stall-requires
 set_stall-requires c =
     let start = c in
     let a = start.args in
-    let sound = subst (λ (s : Stall). SoundStall a.clock s) (sym c.get_stall-s.ensures) start.requires.1.watch.stall in
+    let sound = subst (λ (s : Option StallEpisode). SoundStall a.clock s) (sym c.get_stall-s.ensures) start.requires.1.watch.stall in
     let le = since_le a.clock c.get_stall-s.result a.e sound in
     (start.requires.0, omega (arith, le, c.stalled_since-since.ensures, start.requires.1.clock))
 
@@ -35,7 +35,7 @@ returns-then-waited-wait c =
     let w = window_of a.words.now in
     let wait = c.effective_stall_timeout-wait.ensures ∙ (λ i. effective_stall_timeout (c.get_settings-b.ensures i) (c.get_pace-p.ensures i)) in
     let test = sym (λ i. ltb (c.minus-waited.ensures i) (wait i)) ∙ lt-ltb _ _ c.if-waited-wait.true in
-    stall_goes a.e a.clock w (c.stalled_since-since.ensures ∙ ap (λ (s : Stall). stalled_since s a.e a.clock) c.get_stall-s.ensures) test c.set_stall.ensures
+    stall_goes a.e a.clock w (c.stalled_since-since.ensures ∙ ap (λ (s : Option StallEpisode). stalled_since s a.e a.clock) c.get_stall-s.ensures) test c.set_stall.ensures
 
 pub changed-widened-requires : goal.changed-widened-requires
 changed-widened-requires c =
@@ -54,5 +54,5 @@ returns c =
     let wait = c.effective_stall_timeout-wait.ensures ∙ (λ i. effective_stall_timeout (c.get_settings-b.ensures i) (c.get_pace-p.ensures i)) in
     let test = sym (λ i. ltb (c.minus-waited.ensures i) (wait i)) ∙ le-ltb _ _ c.if-waited-wait.false in
     let widened = c.changed-widened.ensures ∙ (λ i. wait_widened (c.get_settings-b.ensures i) (c.get_pace-p.ensures i)) in
-    let h = subst (λ (p : Pace). Holds (mark_peer_unresponsive a.e.owner a.clock (with_pace p (with_stall Calm w))) c.end_stall.new.words) widened c.end_stall.ensures in
-    stall_fires a.e a.clock w (c.stalled_since-since.ensures ∙ ap (λ (s : Stall). stalled_since s a.e a.clock) c.get_stall-s.ensures) test h
+    let h = subst (λ (p : Pace). Holds (mark_peer_unresponsive a.e.owner a.clock (with_pace p (with_stall None w))) c.end_stall.new.words) widened c.end_stall.ensures in
+    stall_fires a.e a.clock w (c.stalled_since-since.ensures ∙ ap (λ (s : Option StallEpisode). stalled_since s a.e a.clock) c.get_stall-s.ensures) test h

@@ -64,46 +64,40 @@ loop-i-init c =
     let a = c.args in
     let l = (window_of a.words.now).queue.pending in
     let none = drop_of_length-le l {i = a.count} (omega arith) in
-    record { within = omega arith; few = omega arith; low = omega arith; blocks = rw none; bytes = rw none }
-
-pub overflow_sub-i : goal.overflow_sub-i
-overflow_sub-i c = omega arith
+    record { few = omega arith; low = omega arith; blocks = rw none; bytes = rw none }
 
 pub overflow_add-o : goal.overflow_add-o
-overflow_add-o c = omega (arith, c.loop-i.invariant.within, pending_few c.args.words.now)
+overflow_add-o c = omega (arith, pending_few c.args.words.now)
 
 pub offset_bounds-words-i : goal.offset_bounds-words-i
-offset_bounds-words-i c = omega (arith, c.loop-i.invariant.within, pending_few c.args.words.now)
+offset_bounds-words-i c = omega (arith, pending_few c.args.words.now)
 
 pub bounds-words-i : goal.bounds-words-i
-bounds-words-i c = omega (arith, c.loop-i.invariant.within, pending_few c.args.words.now)
+bounds-words-i c = omega (arith, pending_few c.args.words.now)
 
 pub overflow_add-owner : goal.overflow_add-owner
-overflow_add-owner c = omega (arith, seat_at c.args.words.now (c.loop-i.i - 1) (omega (arith, c.loop-i.invariant.within)) c.requires.1.1.1.0)
+overflow_add-owner c = omega (arith, seat_at c.args.words.now (c.loop-i.i - 1) (omega (arith)) c.requires.1.1.1.0)
 
 pub offset_bounds-words-owner : goal.offset_bounds-words-owner
-offset_bounds-words-owner c = omega (arith, seat_at c.args.words.now (c.loop-i.i - 1) (omega (arith, c.loop-i.invariant.within)) c.requires.1.1.1.0)
+offset_bounds-words-owner c = omega (arith, seat_at c.args.words.now (c.loop-i.i - 1) (omega (arith)) c.requires.1.1.1.0)
 
 pub bounds-words-owner : goal.bounds-words-owner
-bounds-words-owner c = omega (arith, seat_at c.args.words.now (c.loop-i.i - 1) (omega (arith, c.loop-i.invariant.within)) c.requires.1.1.1.0)
+bounds-words-owner c = omega (arith, seat_at c.args.words.now (c.loop-i.i - 1) (omega (arith)) c.requires.1.1.1.0)
 
 pub overflow_add-i : goal.overflow_add-i
-overflow_add-i c = omega (arith, c.loop-i.invariant.within, pending_few c.args.words.now)
+overflow_add-i c = omega (arith, pending_few c.args.words.now)
 
 pub offset_bounds-words-i-in-loop-i : goal.offset_bounds-words-i-in-loop-i
-offset_bounds-words-i-in-loop-i c = omega (arith, c.loop-i.invariant.within, pending_few c.args.words.now)
+offset_bounds-words-i-in-loop-i c = omega (arith, pending_few c.args.words.now)
 
 pub bounds-words-i-in-loop-i : goal.bounds-words-i-in-loop-i
-bounds-words-i-in-loop-i c = omega (arith, c.loop-i.invariant.within, pending_few c.args.words.now)
+bounds-words-i-in-loop-i c = omega (arith, pending_few c.args.words.now)
 
 pub counted-f-requires : goal.counted-f-requires
 counted-f-requires c =
     let v = c.loop-i in
     let few = pending_few c.args.words.now in
-    (omega (arith, v.invariant.few, v.invariant.within), (omega (arith, v.invariant.low, v.invariant.within), estimate_le c.args.words.now (v.i - 1) (omega (arith, v.invariant.within)) c.requires.1.1.1.0))
-
-pub loop-i-smaller : goal.loop-i-smaller
-loop-i-smaller c = omega arith
+    (omega (arith, v.invariant.few), (omega (arith, v.invariant.low), estimate_le c.args.words.now (v.i - 1) (omega arith) c.requires.1.1.1.0))
 
 pub loop-i-preserved : goal.loop-i-preserved
 loop-i-preserved c =
@@ -111,12 +105,12 @@ loop-i-preserved c =
     let a = c.args in
     let ws = a.words.now in
     let j = v.i - 1 in
-    let h : j < length (window_of ws).queue.pending = omega (arith, v.invariant.within) in
+    let h : j < length (window_of ws).queue.pending = omega arith in
     let e : v.i ≡ suc j = omega arith in
     let g = c.requires.1.1.1.0 in
     let t = turn ws v.i j a.clock a.timeout v.f.blocks v.f.bytes c.counted-f.result.blocks c.counted-f.result.bytes c.reached-is.result e h g c.requires.1.1.0 (c.reached-is.ensures a.clock a.timeout c.expiry_limit-limit.ensures) v.invariant.blocks v.invariant.bytes c.counted-f.ensures.0 c.counted-f.ensures.1 in
     let most = grows c.reached-is.result v.f.blocks v.f.bytes (get_or ws (j + 1792) 0) c.counted-f.result.blocks c.counted-f.result.bytes (a.count - v.i) v.invariant.few v.invariant.low (estimate_le ws j h g) c.counted-f.ensures.0 c.counted-f.ensures.1 in
-    record { within = omega (arith, v.invariant.within); few = omega (arith, most.0, v.invariant.within); low = omega (arith, most.1, v.invariant.within); blocks = t.0; bytes = t.1 }
+    record { few = omega (arith, most.0); low = omega (arith, most.1); blocks = t.0; bytes = t.1 }
 
 pub returns : goal.returns
 unfolding forecast_blocks forecast_bytes forecast

@@ -16,7 +16,6 @@ abbrev pub goes : ℕ → Window → Entry → Bool
 goes clock w e = owner_download_expired e.owner (active w) clock w
 
 pub record Inv (clock count : ℕ) (ws : List ℕ) (x y i : ℕ) : Type 0 where
-  pub within : i ≤ count
   pub few : x ≤ count - i
   pub low : y ≤ 4294967295 * (count - i)
   pub blocks : x ≡ length (select (goes clock (window_of ws)) (drop i (window_of ws).queue.pending))
@@ -24,6 +23,3 @@ pub record Inv (clock count : ℕ) (ws : List ℕ) (x y i : ℕ) : Type 0 where
 
 abbrev pub invariant-loop-i : goal.invariant-loop-i
 invariant-loop-i l = Inv l.clock l.count l.words l.f.blocks l.f.bytes l.i
-
-abbrev pub decreases-loop-i : goal.decreases-loop-i
-decreases-loop-i l = l.i

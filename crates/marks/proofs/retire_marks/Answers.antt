@@ -19,7 +19,7 @@ unfolding retire_reason
 marked ws i height v h is = is ∙ ap (λ (n : ℕ). cond (ltb n height) 5 0) (sym (height_at ws i h))
 
 pub loop-i-init : goal.loop-i-init
-loop-i-init c = (omega arith, none_made _ _)
+loop-i-init c = none_made _ _
 
 pub overflow_add-i : goal.overflow_add-i
 overflow_add-i c = omega (arith, pending_few c.args.words.now)
@@ -36,12 +36,6 @@ offset_bounds-marks-i c = omega (arith, pending_few c.args.words.now)
 pub bounds-marks-i : goal.bounds-marks-i
 bounds-marks-i c = omega (arith, pending_few c.args.words.now)
 
-pub overflow_add-i-in-loop-i : goal.overflow_add-i-in-loop-i
-overflow_add-i-in-loop-i c = omega (arith, pending_few c.args.words.now)
-
-pub loop-i-smaller : goal.loop-i-smaller
-loop-i-smaller c = omega arith
-
 pub loop-i-preserved : goal.loop-i-preserved
 loop-i-preserved c =
     let v = c.loop-i in
@@ -49,10 +43,9 @@ loop-i-preserved c =
     let ws = a.words.now in
     let h : v.i < length (window_of ws).queue.pending = omega arith in
     let is = marked ws v.i a.height c.retire_mark.result h c.retire_mark.ensures in
-    (omega arith, one_more _ ws v.i c.retire_mark.result v.marks h is v.invariant.1)
+    one_more _ ws v.i c.retire_mark.result v.marks h is v.invariant
 
 pub returns : goal.returns
 returns c =
     let v = c.loop-i in
-    let s = c in
-    all_made _ s.args.words.now v.i s.args.count v.marks (omega arith) s.requires.1 v.invariant.1
+    all_made _ c.args.words.now v.i c.args.count v.marks (omega arith) c.requires.1 v.invariant

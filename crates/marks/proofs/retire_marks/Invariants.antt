@@ -1,11 +1,7 @@
 -- `marks::retire_marks` meets its contract: at the loop's head the first i marks are made. Assumes nothing.
-use Prim.Native.Nat.{◌-◌, ◌≤◌}
 use Rattle.laws.specs.Batches.{retire_reason}
 use Rattle.marks.proofs.Marked.{Marked}
 use Rattle.marks.proofs.retire_marks.Given as goal
 
 abbrev pub invariant-loop-i : goal.invariant-loop-i
-invariant-loop-i l = (l.i ≤ l.count) × Marked (retire_reason l.height) l.words l.i l.marks
-
-abbrev pub decreases-loop-i : goal.decreases-loop-i
-decreases-loop-i l = l.count - l.i
+invariant-loop-i l = Marked (retire_reason l.height) l.words l.i l.marks

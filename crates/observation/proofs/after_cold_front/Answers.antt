@@ -18,4 +18,4 @@ returns-in_default c = λ h e.
     late_sees c.args.clock h c.advance_stall-staller.ensures c.in_default.is c.advance_pending_timeout-late.ensures e c.timeout_answer.ensures
 
 pub returns : goal.returns
-returns c = λ h e. let s = c.advance_stall-staller.ensures in rw (sym s.told ∙ c.in-From.is) (record { left = s.left; told = refl })
+returns c = λ h e. let s = c.advance_stall-staller.ensures in rw (sym s.told ∙ c.in-Some.is) (record { left = s.left; told = refl })

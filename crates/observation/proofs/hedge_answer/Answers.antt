@@ -2,4 +2,4 @@
 use Rattle.observation.proofs.hedge_answer.Goals as goal
 
 pub returns : goal.returns
-returns c = rw c.in-HedgeFront.is
+returns c = rw c.in-Some.is

@@ -1,21 +1,23 @@
 -- `plan_calls::refused_by` meets its contract. Assumes nothing.
-use mathlib.Core.Path.{◌∙◌}
+use mathlib.Core.Path.{refl, ◌∙◌}
 use mathlib.Core.Bool.{true}
 use Rattle.model.specs.Layout.{window_of}
 use Rattle.model.specs.Refusals.{at, seat_ok}
+use Rattle.model.specs.Says.{number}
+use Rattle.refusals.specs.Passed.{number_some, passed_on}
 use Rattle.admission.specs.Content.{refused_before, refused_after}
 use Rattle.plan_calls.specs.Refused.{lists_refusal}
 use Rattle.plan_calls.proofs.refused_by.Goals as goal
 
-pub returns-then-k-ne0 : goal.returns-then-k-ne0
-returns-then-k-ne0 c =
+pub returns-in_err-report_refused_by : goal.returns-in_err-report_refused_by
+returns-in_err-report_refused_by c =
     let a = c.args in
-    let n = c.report_refused_by-k in
-    refused_before true (at a.clock) (seat_ok a.source) (lists_refusal a.chain a.tip a.hashes a.heights) a.words.now a.room n.result n.ensures c.if-k-ne0.true
+    let e = c.in_err-report_refused_by.field-0.0 in
+    rw (passed_on _ e c.from_residual.ensures.1)
+    (refused_before true (at a.clock) (seat_ok a.source) (lists_refusal a.chain a.tip a.hashes a.heights) a.words.now a.room (number e) c.in_err-report_refused_by.ensures (number_some e))
 
 pub returns : goal.returns
 returns c =
     let a = c.args in
-    let n = c.report_refused_by-k in
     c.lists_refused_by.ensures (window_of a.words.now)
-    ∙ refused_after true (at a.clock) (seat_ok a.source) (lists_refusal a.chain a.tip a.hashes a.heights) a.words.now a.room n.result n.ensures c.if-k-ne0.false
+    ∙ refused_after true (at a.clock) (seat_ok a.source) (lists_refusal a.chain a.tip a.hashes a.heights) a.words.now a.room 0 c.in_ok-report_refused_by.ensures refl

@@ -1,10 +1,9 @@
 -- `played::look` meets its contract. Assumes nothing.
+use Rattle.std.specs.Prelude.{Some}
 use mathlib.Core.Path.{◌∙◌, refl, sym}
 use lib.ListN.{replicate}
 use Rattle.lend.specs.Goes.{leaves_as, quiet_change}
 use Rattle.model.specs.Refusals.{changes, observes}
-use Rattle.model.specs.declared.Height.TheVariants.{Known}
-use Rattle.model.specs.declared.Sought.TheVariants.{Exactly}
 use Rattle.observation.specs.Look.{look}
 use Rattle.played.specs.Steps.{looking}
 use Rattle.played.specs.Told.{blocked_told, plays_quietly}
@@ -19,6 +18,6 @@ returns c =
     let s = start.args.s in
     plays_quietly (looking s) start.args.b _ _ _ _ (quiet_change _ refl)
     (leaves_as _ (looking s).call _
-    (λ i. changes (observes s.clock (look (Known s.first) (Exactly s.hash) false s.other (Known (sym at-height-after.ensures i))))) _ _
+    (λ i. changes (observes s.clock (look (Some s.first) (Some s.hash) false s.other (Some (sym at-height-after.ensures i))))) _ _
     at-observe-blocked.ensures)
     (c.blocked.ensures ∙ blocked_told at-observe-blocked.result (replicate 2304 0)) refl

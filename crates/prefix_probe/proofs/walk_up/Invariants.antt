@@ -1,5 +1,4 @@
 -- `prefix_probe::walk_up` meets its contract. Assumes nothing.
-use Prim.Native.Nat.{◌-◌}
 use Rattle.model.specs.Layout.{window_of}
 use Rattle.prefix_probe.specs.Walks.{Walking, Searching, Found}
 use Rattle.prefix_probe.proofs.walk_up.Given as goal
@@ -7,11 +6,5 @@ use Rattle.prefix_probe.proofs.walk_up.Given as goal
 abbrev pub invariant-loop-i : goal.invariant-loop-i
 invariant-loop-i l = Searching l.expected l.n l.limit l.i l.at l.marks (window_of l.words).queue.pending × Found l.i l.at (window_of l.words).queue.pending
 
-abbrev pub decreases-loop-i : goal.decreases-loop-i
-decreases-loop-i l = l.i
-
-abbrev pub invariant-walk : goal.invariant-walk
-invariant-walk l = Walking l.limit l.first (window_of l.words).queue.pending l.n l.places l.marks l.expected
-
-abbrev pub decreases-walk : goal.decreases-walk
-decreases-walk l = l.count - l.n
+abbrev pub invariant-loop-n : goal.invariant-loop-n
+invariant-loop-n l = Walking l.limit l.first (window_of l.words).queue.pending l.n l.places l.marks l.expected

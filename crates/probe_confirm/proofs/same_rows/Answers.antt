@@ -7,7 +7,7 @@ use Rattle.probe_confirm.specs.Confirms.{same_from, same_start, same_step, same_
 use Rattle.probe_confirm.proofs.same_rows.Goals as goal
 
 pub loop-i-init : goal.loop-i-init
-loop-i-init c = (omega arith, same_start c.args.a c.args.b)
+loop-i-init c = same_start c.args.a c.args.b
 
 pub offset_bounds-a-i : goal.offset_bounds-a-i
 offset_bounds-a-i c = omega (arith, c.loop-i-test.true)
@@ -25,23 +25,15 @@ pub returns-then-not-same_row : goal.returns-then-not-same_row
 returns-then-not-same_row c =
     let l = c.loop-i in
     let s = c in
-    sym (l.invariant.1 ∙ same_step s.args.a s.args.b l.i (omega (arith, c.loop-i-test.true))
+    sym (l.invariant ∙ same_step s.args.a s.args.b l.i (omega (arith, c.loop-i-test.true))
     ∙ ap (λ (q : Bool). q && same_from s.args.a s.args.b (l.i + 1)) (sym c.same_row.ensures ∙ c.if-not-same_row.true))
-
-pub overflow_add-i : goal.overflow_add-i
-overflow_add-i c = omega (arith, c.loop-i-test.true)
-
-pub loop-i-smaller : goal.loop-i-smaller
-loop-i-smaller c = omega (arith, c.loop-i-test.true)
 
 pub loop-i-preserved : goal.loop-i-preserved
 loop-i-preserved c =
     let l = c.loop-i in
-    let s = c in (
-      omega (arith, c.loop-i-test.true),
-      l.invariant.1 ∙ same_step s.args.a s.args.b l.i (omega (arith, c.loop-i-test.true))
-          ∙ ap (λ (q : Bool). q && same_from s.args.a s.args.b (l.i + 1)) (sym c.same_row.ensures ∙ c.if-not-same_row.false),
-    )
+    let s = c in
+    l.invariant ∙ same_step s.args.a s.args.b l.i (omega (arith, c.loop-i-test.true))
+    ∙ ap (λ (q : Bool). q && same_from s.args.a s.args.b (l.i + 1)) (sym c.same_row.ensures ∙ c.if-not-same_row.false)
 
 pub returns : goal.returns
-returns c = sym (c.loop-i.invariant.1 ∙ same_end c.args.a c.args.b c.loop-i.i (omega (arith, c.loop-i-test.false)))
+returns c = sym (c.loop-i.invariant ∙ same_end c.args.a c.args.b c.loop-i.i (omega (arith, c.loop-i-test.false)))

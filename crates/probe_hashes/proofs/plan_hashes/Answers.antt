@@ -1,6 +1,6 @@
 -- `probe_hashes::plan_hashes` meets its contract. Assumes nothing.
 use mathlib.Core.Path.{◌≡◌, sym, ap, ◌∙◌}
-use Prim.Native.Nat.{◌-◌, ◌<◌}
+use Prim.Native.Nat.{◌<◌}
 use native.Mathlib.Omega.{arith}
 use lib.ListN.{take}
 use Rattle.model.specs.Layout.{window_of, planned_words}
@@ -12,7 +12,7 @@ use Rattle.probe_hashes.proofs.plan_hashes.Goals.{In-loop-i}
 use Rattle.probe_hashes.proofs.plan_hashes.Goals as goal
 
 pub loop-i-init : goal.loop-i-init
-loop-i-init c = (omega arith, filled_start _)
+loop-i-init c = filled_start _
 
 within : (c : In-loop-i) → c.loop-i.i < 8
 within c =
@@ -36,23 +36,15 @@ offset_bounds-rows-i c = omega (arith, within (goal.at.offset_bounds-rows-i c).I
 pub bounds-rows-i : goal.bounds-rows-i
 bounds-rows-i c = within (goal.at.bounds-rows-i c).In-loop-i
 
-pub overflow_add-i : goal.overflow_add-i
-overflow_add-i c = omega (arith, within (goal.at.overflow_add-i c).In-loop-i)
-
-pub loop-i-smaller : goal.loop-i-smaller
-loop-i-smaller c = omega (arith, c.loop-i-test.true)
-
 pub loop-i-preserved : goal.loop-i-preserved
 loop-i-preserved c =
     let l = c.loop-i in
     let s = c in
     let n = c.how_many-n.result in
     let ps = s.args.p.places in
-    let es = (window_of s.args.words.now).queue.pending in (
-      omega (arith, c.loop-i-test.true),
-      filled_step l.i (hashes_at es (take n ps)) l.rows c.row_at-row.result (within (goal.at.loop-i-preserved c).In-loop-i)
-          (ap row_hash c.row_at-row.ensures ∙ plan_row es ps n l.i c.loop-i-test.true (omega (arith, how_few s.args.p (window_of s.args.words.now) s.requires.1 n c.how_many-n.ensures, s.requires.1.few, s.requires.1.room))) l.invariant.1,
-    )
+    let es = (window_of s.args.words.now).queue.pending in
+    filled_step l.i (hashes_at es (take n ps)) l.rows c.row_at-row.result (within (goal.at.loop-i-preserved c).In-loop-i)
+    (ap row_hash c.row_at-row.ensures ∙ plan_row es ps n l.i c.loop-i-test.true (omega (arith, how_few s.args.p (window_of s.args.words.now) s.requires.1 n c.how_many-n.ensures, s.requires.1.few, s.requires.1.room))) l.invariant
 
 pub returns : goal.returns
 returns c =
@@ -62,6 +54,6 @@ returns c =
     let w = window_of s.args.words.now in
     let ps = s.args.p.places in
     let least = how_few s.args.p w s.requires.1 n c.how_many-n.ensures in
-    let e : l.i ≡ n = omega (arith, c.loop-i-test.false, l.invariant.0) in
-    filled_done n (hashes_at w.queue.pending (take n ps)) l.rows (count_planned w.queue.pending n ps (omega (arith, least, s.requires.1.few, s.requires.1.room))) (omega (arith, least, s.requires.1.few)) (rw e at l.invariant.1)
+    let e : l.i ≡ n = omega (arith, c.loop-i-test.false) in
+    filled_done n (hashes_at w.queue.pending (take n ps)) l.rows (count_planned w.queue.pending n ps (omega (arith, least, s.requires.1.few, s.requires.1.room))) (omega (arith, least, s.requires.1.few)) (rw e at l.invariant)
     ∙ ap planned_words (sym (plan_list s.args.p w s.requires.1 n c.how_many-n.ensures))

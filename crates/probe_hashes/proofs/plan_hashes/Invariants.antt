@@ -1,5 +1,4 @@
 -- `probe_hashes::plan_hashes` meets its contract. Assumes nothing.
-use Prim.Native.Nat.{◌-◌, ◌≤◌}
 use lib.ListN.{take}
 use Rattle.model.specs.Layout.{window_of}
 use Rattle.prefix_probe.specs.Walks.{hashes_at}
@@ -7,7 +6,4 @@ use Rattle.probe_hashes.specs.Rows.{Filled}
 use Rattle.probe_hashes.proofs.plan_hashes.Given as goal
 
 abbrev pub invariant-loop-i : goal.invariant-loop-i
-invariant-loop-i l = (l.i ≤ l.n) × Filled l.i (hashes_at (window_of l.words).queue.pending (take l.n l.places)) l.rows
-
-abbrev pub decreases-loop-i : goal.decreases-loop-i
-decreases-loop-i l = l.n - l.i
+invariant-loop-i l = Filled l.i (hashes_at (window_of l.words).queue.pending (take l.n l.places)) l.rows

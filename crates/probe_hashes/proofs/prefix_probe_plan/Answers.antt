@@ -1,5 +1,6 @@
 -- `probe_hashes::prefix_probe_plan` meets its contract. Assumes nothing.
-use mathlib.Core.Path.{◌∙◌}
+use Rattle.std.specs.Prelude.{Ok}
+use mathlib.Core.Path.{ap, ◌∙◌}
 use Rattle.model.specs.Layout.{window_of}
 use Rattle.model.specs.Races.{prefix_probe_plan}
 use Rattle.probe_plan.specs.Plans.{header_planned}
@@ -12,4 +13,4 @@ unfolding rows_words
 returns c =
     let w = window_of c.args.words.now in
     let p = c.make_plan-p in
-    plan_said _ (prefix_probe_plan w) (c.header_of.ensures ∙ header_planned p.result w p.ensures) (c.planned_list.ensures ∙ c.plan_hashes-rows.ensures)
+    plan_said _ (prefix_probe_plan w) (ap Ok (c.header_of.ensures ∙ header_planned p.result w p.ensures)) (c.planned_list.ensures ∙ c.plan_hashes-rows.ensures)

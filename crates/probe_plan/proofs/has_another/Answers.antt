@@ -14,7 +14,7 @@ use Rattle.state_races.specs.Hedges.{any_turn, any_end}
 use Rattle.probe_plan.proofs.has_another.Goals as goal
 
 pub loop-i-init : goal.loop-i-init
-loop-i-init c = (omega arith, refl)
+loop-i-init c = refl
 
 pub entry_at-e-requires : goal.entry_at-e-requires
 entry_at-e-requires c = (c.requires, omega (arith, c.pending_count-n.ensures.0))
@@ -23,23 +23,17 @@ pub returns-then-e-owner : goal.returns-then-e-owner
 returns-then-e-owner c =
     let l = (window_of c.args.words.now).queue.pending in
     let owner = c.args.owner in
-    sym (c.loop-i.invariant.1 ∙ any_turn (λ e. not (eqb e.owner owner)) l c.loop-i.i blank true (omega (arith, c.pending_count-n.ensures.0)) (ap (λ (e : Entry). not (eqb e.owner owner)) (sym c.entry_at-e.ensures) ∙ ap not (ne_eqb _ _ c.if-e-owner.true)))
-
-pub overflow_add-i : goal.overflow_add-i
-overflow_add-i c = omega arith
-
-pub loop-i-smaller : goal.loop-i-smaller
-loop-i-smaller c = omega arith
+    sym (c.loop-i.invariant ∙ any_turn (λ e. not (eqb e.owner owner)) l c.loop-i.i blank true (omega (arith, c.pending_count-n.ensures.0)) (ap (λ (e : Entry). not (eqb e.owner owner)) (sym c.entry_at-e.ensures) ∙ ap not (ne_eqb _ _ c.if-e-owner.true)))
 
 pub loop-i-preserved : goal.loop-i-preserved
 loop-i-preserved c =
     let l = (window_of c.args.words.now).queue.pending in
     let owner = c.args.owner in
-    (omega (arith, c.pending_count-n.ensures.0), c.loop-i.invariant.1 ∙ rw add-one (any_turn (λ e. not (eqb e.owner owner)) l c.loop-i.i blank false (omega (arith, c.pending_count-n.ensures.0)) (ap (λ (e : Entry). not (eqb e.owner owner)) (sym c.entry_at-e.ensures) ∙ ap not (eq-eqb _ _ c.if-e-owner.false))))
+    c.loop-i.invariant ∙ rw add-one (any_turn (λ e. not (eqb e.owner owner)) l c.loop-i.i blank false (omega (arith, c.pending_count-n.ensures.0)) (ap (λ (e : Entry). not (eqb e.owner owner)) (sym c.entry_at-e.ensures) ∙ ap not (eq-eqb _ _ c.if-e-owner.false)))
 
 pub returns : goal.returns
 returns c =
     let l = (window_of c.args.words.now).queue.pending in
     let owner = c.args.owner in
     let q : c.loop-i.i ≡ length l = omega (arith, c.pending_count-n.ensures.0) in
-    sym (c.loop-i.invariant.1 ∙ ap (λ (i : ℕ). any (λ e. not (eqb e.owner owner)) (drop i l)) q ∙ any_end (λ e. not (eqb e.owner owner)) l)
+    sym (c.loop-i.invariant ∙ ap (λ (i : ℕ). any (λ e. not (eqb e.owner owner)) (drop i l)) q ∙ any_end (λ e. not (eqb e.owner owner)) l)

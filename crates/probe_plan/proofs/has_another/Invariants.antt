@@ -1,15 +1,11 @@
 -- `probe_plan::has_another` meets its contract. Assumes nothing.
 use mathlib.Core.Path.{◌≡◌}
 use mathlib.Core.Bool.{not}
-use Prim.Native.Nat.{◌-◌, ◌≤◌}
-use lib.ListN.{length, drop}
+use lib.ListN.{drop}
 use lib.Dec.{eqb}
 use Rattle.model.specs.Lists.{any}
 use Rattle.model.specs.Layout.{window_of}
 use Rattle.probe_plan.proofs.has_another.Given as goal
 
 abbrev pub invariant-loop-i : goal.invariant-loop-i
-invariant-loop-i l = (l.i ≤ length (window_of l.words).queue.pending) × (any (λ e. not (eqb e.owner l.owner)) (window_of l.words).queue.pending ≡ any (λ e. not (eqb e.owner l.owner)) (drop l.i (window_of l.words).queue.pending))
-
-abbrev pub decreases-loop-i : goal.decreases-loop-i
-decreases-loop-i l = l.n - l.i
+invariant-loop-i l = any (λ e. not (eqb e.owner l.owner)) (window_of l.words).queue.pending ≡ any (λ e. not (eqb e.owner l.owner)) (drop l.i (window_of l.words).queue.pending)

@@ -12,7 +12,7 @@ use Rattle.probe_race.specs.Scans.{place_here, place_on, place_end}
 use Rattle.probe_race.proofs.place_of.Goals as goal
 
 pub loop-i-init : goal.loop-i-init
-loop-i-init c = (omega arith, omega arith)
+loop-i-init c = omega arith
 
 pub planned_hash-x-requires : goal.planned_hash-x-requires
 planned_hash-x-requires c = (c.requires.long, omega (arith, c.planned_count-n.ensures))
@@ -24,13 +24,7 @@ returns-then-equal c =
     let l = (window_of s.args.words.now).races.planned in
     let e = place_here s.args.h l by_loop.i (hash 0 0 0 0) (omega (arith, c.planned_count-n.ensures))
     (ap (λ (x : Hash). same x s.args.h) (sym c.planned_hash-x.ensures) ∙ sym c.equal.ensures ∙ c.if-equal.true) in
-    omega (arith, by_loop.invariant.1, e)
-
-pub overflow_add-i : goal.overflow_add-i
-overflow_add-i c = omega arith
-
-pub loop-i-smaller : goal.loop-i-smaller
-loop-i-smaller c = omega arith
+    omega (arith, by_loop.invariant, e)
 
 pub loop-i-preserved : goal.loop-i-preserved
 loop-i-preserved c =
@@ -40,7 +34,7 @@ loop-i-preserved c =
     let l = (window_of s.args.words.now).races.planned in
     let e = place_on s.args.h l by_loop.i (hash 0 0 0 0) (omega (arith, by-planned-count.ensures))
     (ap (λ (x : Hash). same x s.args.h) (sym c.planned_hash-x.ensures) ∙ sym c.equal.ensures ∙ c.if-equal.false) in
-    rw add-one (omega (arith, by-planned-count.ensures), omega (arith, by_loop.invariant.1, e))
+    rw add-one (omega (arith, by_loop.invariant, e))
 
 pub returns : goal.returns
 returns c =
@@ -48,4 +42,4 @@ returns c =
     let l = (window_of s.args.words.now).races.planned in
     let q : c.loop-i.i ≡ length l = omega (arith, c.planned_count-n.ensures) in
     let e = ap (λ (i : ℕ). place_of s.args.h (drop i l)) q ∙ place_end s.args.h l in
-    omega (arith, c.loop-i.invariant.1, e, c.planned_count-n.ensures)
+    omega (arith, c.loop-i.invariant, e, c.planned_count-n.ensures)

@@ -34,21 +34,21 @@ race_won-requires c =
     let w = window_of a.words.now in
     let e = s.requires.1.1.1.1.1 in
     let g = noted_sound a.clock a.i a.source a.owner a.accepted a.started w s.requires.1.1.1.0 s.requires.1.0 e in
-    (by-note-progress.ensures.whole, (subst (Sound a.clock) (sym by-note-progress.ensures.is) g, (s.requires.1.1.0, (subst SoundSource c.in-From.is c.winner-w.ensures.1, (probe_ranges a.clock a.owner a.accepted a.started w s.requires.1.0 e).0))))
+    (by-note-progress.ensures.whole, (subst (Sound a.clock) (sym by-note-progress.ensures.is) g, (s.requires.1.1.0, (subst SoundSource c.in-Some.is c.winner-w.ensures.1, (probe_ranges a.clock a.owner a.accepted a.started w s.requires.1.0 e).0))))
 
-pub returns-in-Missing : goal.returns-in-Missing
+pub returns-in-None : goal.returns-in-None
 unfolding releases_of
-returns-in-Missing c =
+returns-in-None c =
     let by-bit-of = c.bit_of-bit in
     let by-winner = c.winner-w in
     let a = c.args in
-    let t = race_on_is a.i a.source a.owner a.accepted a.started a.clock (window_of a.words.now) _ c.note_progress.ensures.is by-winner.result by-winner.ensures.0 by-bit-of.result by-bit-of.ensures.0 c.in-Missing.is in
+    let t = race_on_is a.i a.source a.owner a.accepted a.started a.clock (window_of a.words.now) _ c.note_progress.ensures.is by-winner.result by-winner.ensures.0 by-bit-of.result by-bit-of.ensures.0 c.in-None.is in
     (omega arith, subst (λ (s : Step). Holds s.window c.race_on.new.words) t c.race_on.ensures, ap (λ (s : Step). s.gone) t)
 
-pub returns-in-From : goal.returns-in-From
-returns-in-From c =
+pub returns-in-Some : goal.returns-in-Some
+returns-in-Some c =
     let by-winner = c.winner-w in
     let by-race-won = c.race_won in
     let a = c.args in
-    let t = race_won_is a.i a.source a.owner a.accepted a.started a.clock (window_of a.words.now) _ c.note_progress.ensures.is by-winner.result by-winner.ensures.0 _ c.in-From.is in
+    let t = race_won_is a.i a.source a.owner a.accepted a.started a.clock (window_of a.words.now) _ c.note_progress.ensures.is by-winner.result by-winner.ensures.0 _ c.in-Some.is in
     (by-race-won.ensures.0, subst (λ (s : Step). Holds s.window by-race-won.new.words) t by-race-won.ensures.1, by-race-won.ensures.2 ∙ ap (λ (s : Step). s.gone) t)

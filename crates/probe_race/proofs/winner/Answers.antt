@@ -11,7 +11,7 @@ use Rattle.probe_race.specs.Scans.{winner_turn, winner_end}
 use Rattle.probe_race.proofs.winner.Goals as goal
 
 pub loop-seat-init : goal.loop-seat-init
-loop-seat-init c = (omega arith, refl)
+loop-seat-init c = refl
 
 pub returns-then-has_won : goal.returns-then-has_won
 returns-then-has_won c =
@@ -19,13 +19,7 @@ returns-then-has_won c =
     let by_loop = c.loop-seat in
     let l = (window_of s.args.words.now).races.racers in
     let e = winner_turn l by_loop.seat true (omega (arith, (words_shaped s.args.words.now s.requires).racers)) (ap has_won (sym c.racer_of-racer.ensures) ∙ sym c.has_won.ensures ∙ c.if-has_won.true) in
-    (sym (by_loop.invariant.1 ∙ e), omega arith)
-
-pub overflow_add-seat : goal.overflow_add-seat
-overflow_add-seat c = omega arith
-
-pub loop-seat-smaller : goal.loop-seat-smaller
-loop-seat-smaller c = omega arith
+    (sym (by_loop.invariant ∙ e), omega arith)
 
 pub loop-seat-preserved : goal.loop-seat-preserved
 loop-seat-preserved c =
@@ -33,10 +27,10 @@ loop-seat-preserved c =
     let by_loop = c.loop-seat in
     let l = (window_of s.args.words.now).races.racers in
     let e = winner_turn l by_loop.seat false (omega (arith, (words_shaped s.args.words.now s.requires).racers)) (ap has_won (sym c.racer_of-racer.ensures) ∙ sym c.has_won.ensures ∙ c.if-has_won.false) in
-    rw add-one (omega arith, by_loop.invariant.1 ∙ e)
+    rw add-one (by_loop.invariant ∙ e)
 
 pub returns : goal.returns
 returns c =
     let s = c in
     let l = (window_of s.args.words.now).races.racers in
-    (sym (c.loop-seat.invariant.1 ∙ winner_end l c.loop-seat.seat (omega (arith, (words_shaped s.args.words.now s.requires).racers))), tt)
+    (sym (c.loop-seat.invariant ∙ winner_end l c.loop-seat.seat (omega (arith, (words_shaped s.args.words.now s.requires).racers))), tt)

@@ -1,7 +1,8 @@
 -- `queries::stalling_peer` meets its contract. Assumes nothing.
+use Rattle.std.specs.Prelude.{Option}
 use Rattle.model.specs.Queries.{stall_values}
 use Rattle.model.specs.Layout.{window_of}
-use Rattle.model.specs.declared.Stall.{Stall}
+use Rattle.model.specs.declared.StallEpisode.{StallEpisode}
 use mathlib.Core.Path.{sym, subst, ap, ◌∙◌}
 use mathlib.Core.List.{[], ◌∷◌}
 use Prim.Native.Nat.{ℕ}
@@ -12,13 +13,13 @@ use Rattle.queries.proofs.stalling_peer.Goals as goal
 
 pub key_of-key-requires : goal.key_of-key-requires
 key_of-key-requires c =
-    let owner = subst seated (sym c.get_stall-s.ensures ∙ c.in-Episode.is) c.requires.1 in
+    let owner = subst seated (sym c.get_stall-s.ensures ∙ c.in-Some.is) c.requires.1 in
     (c.requires.0, omega arith)
 
-pub returns-in-Calm : goal.returns-in-Calm
-returns-in-Calm c = rw (← c.get_stall-s.ensures, c.in-Calm.is)
+pub returns-in-None : goal.returns-in-None
+returns-in-None c = rw (← c.get_stall-s.ensures, c.in-None.is)
 
-pub returns-in-Episode : goal.returns-in-Episode
-returns-in-Episode c =
+pub returns-in-Some : goal.returns-in-Some
+returns-in-Some c =
     let w = window_of c.args.words.now in
-    ap (λ (k : ℕ). says 0 (k ∷ c.in-Episode.since ∷ [])) c.key_of-key.ensures ∙ sym (ap (λ (s : Stall). says 0 (stall_values s w)) (sym c.get_stall-s.ensures ∙ c.in-Episode.is))
+    ap (λ (k : ℕ). says 0 (k ∷ c.in-Some.field-0.since ∷ [])) c.key_of-key.ensures ∙ sym (ap (λ (s : Option StallEpisode). says 0 (stall_values s w)) (sym c.get_stall-s.ensures ∙ c.in-Some.is))

@@ -1,74 +1,83 @@
--- `records::at_height` meets its contract: what is found among the records is found from i on. Assumes nothing.
+-- `records::at_height` meets its contract. Assumes nothing.
+use Rattle.std.specs.Prelude.{None, Some, Option}
 use mathlib.Core.Path.{◌≡◌, refl, sym, ap, ◌∙◌}
-use mathlib.Core.Bool.{Bool, true, false, cond}
-use mathlib.Core.List.{List}
-use Prim.Native.Nat.{ℕ, suc, ◌+◌, ◌-◌, ◌≤◌, ◌<◌}
+use mathlib.Core.Logic.{inl, inr}
+use mathlib.Core.Bool.{Bool, true, false, cond, not}
+use mathlib.Core.List.{List, [], ◌∷◌, map}
+use Prim.Native.Nat.{ℕ, zero, suc, ◌+◌, ◌-◌, ◌<◌}
 use native.Mathlib.Omega.{arith}
-use native.Mathlib.Numerals.{add-one}
-use lib.ListN.{take, drop, get_or}
-use lib.Dec.{eqb}
-use borrow.Author.Tests.{eq-eqb, ne_eqb}
-use Rattle.model.specs.Lists.{count}
+use lib.ListN.{length, take, drop, get_or}
+use lib.Seq.{get_or-take}
+use lib.Dec.{eqb, ltb}
+use borrow.Author.Tests.{lt-ltb, le-ltb, ltb-true, ltb-false}
+use Rattle.std.specs.List.{position_or_len}
+use Rattle.std.proofs.Common.{rules, tests, Option, Some, None}
+use Rattle.std.proofs.lemmas.Iterator.{YieldsList-from_slice}
+use Rattle.std.proofs.lemmas.Iterator.Search.{position_from_yields_List}
 use Rattle.model.specs.Records.{at_height}
-use Rattle.model.specs.Layout.{entry_at, rows, decode}
-use Rattle.laws.specs.Rows.{live_cons, live_end, word_at}
-use Rattle.laws.specs.Tables.{entry_decode}
-use Rattle.model.specs.declared.Front.TheVariants.{At}
+use Rattle.model.specs.Layout.{blank, field, rows, decode}
+use Rattle.model.specs.declared.Entry.{Entry}
+use Rattle.laws.specs.Numbers.{both}
+use Rattle.records.proofs.Live.{live_col}
 use Rattle.records.proofs.at_height.Goals as goal
+use Rattle.records.proofs.at_height.Goals.{After-position}
 
--- a turn, by its test
-turn : (n m i : ℕ) (ws : List ℕ) (b : Bool) → i < m → m ≤ 256 → eqb (get_or ws (i + 1536) 0) n ≡ b
-    → at_height n (drop i (take m (rows 256 ws))) ≡ cond b (At (entry_at (drop i ws))) (at_height n (drop (suc i) (take m (rows 256 ws))))
+abbrev is : ℕ → ℕ → Bool
+is h = λ x. eqb x h
+
+-- the record at the place that was found
+abbrev front_of : Option ℕ → List Entry → Option Entry
+front_of None l = None
+front_of (Some i) l = Some (get_or l i blank)
+
+-- the first place of h among heights
+abbrev place : ℕ → List ℕ → Option ℕ
+place h xs = cond (ltb (position_or_len (is h) xs) (length xs)) (Some (position_or_len (is h) xs)) None
+
+later : (b : Bool) (p : ℕ) (e : Entry) (l : List Entry) → front_of (cond b (Some p) None) l ≡ front_of (cond b (Some (suc p)) None) (e ∷ l)
+later true p e l = refl
+later false p e l = refl
+
+ltb_suc : (p n : ℕ) → ltb (suc p) (suc n) ≡ ltb p n
+ltb_suc p n = elim (both (ltb p n)) [
+  | inl q ↦ lt-ltb (suc p) (suc n) (omega (arith, ltb-true p n q)) ∙ sym q
+  | inr q ↦ le-ltb (suc p) (suc n) (omega (arith, ltb-false p n q)) ∙ sym q
+]
+
+turn : (b : Bool) (p q n : ℕ) (e : Entry) (l : List Entry) (rest : Option Entry) → q ≡ suc p → rest ≡ front_of (cond (ltb p n) (Some p) None) l
+    → cond b (Some e) rest ≡ front_of (cond (ltb (cond (not b) q 0) (suc n)) (Some (cond (not b) q 0)) None) (e ∷ l)
+turn true p q n e l rest s r = sym (ap (λ (t : Bool). front_of (cond t (Some 0) None) (e ∷ l)) (lt-ltb 0 (suc n) (omega arith)))
+turn false p q n e l rest s r =
+    r ∙ later (ltb p n) p e l ∙ ap (λ (t : Bool). front_of (cond t (Some (suc p)) None) (e ∷ l)) (sym (ltb_suc p n))
+    ∙ ap (λ (x : ℕ). front_of (cond (ltb x (suc n)) (Some x) None) (e ∷ l)) (sym s)
+
+at_place : (h : ℕ) (l : List Entry) → at_height h l ≡ front_of (place h (map (field 6) l)) l
 unfolding at_height
-turn n m i ws b h k e =
-    let x : eqb (entry_at (drop i ws)).height n ≡ b = ap (λ (v : ℕ). eqb v n) (word_at i ws 6 (omega arith)) ∙ e in
-    ap (at_height n) (live_cons m i ws h k) ∙ ap (λ (t : Bool). cond t (At (entry_at (drop i ws))) (at_height n (drop (suc i) (take m (rows 256 ws))))) x
+at_place h [] = refl
+at_place h (e ∷ l) =
+    let p = position_or_len (is h) (map (field 6) l) in
+    turn (eqb e.height h) p (1 + p) (length (map (field 6) l)) e l (at_height h l) (omega arith) (at_place h l)
 
-pub loop-i-init : goal.loop-i-init
-loop-i-init c = (omega arith, refl)
+-- what `position` answered
+found : (c : After-position) → c.position.result ≡ place c.args.height (map (field 6) (take c.args.count (rows 256 c.args.words.now)))
+found c =
+    let a = c.args in
+    let heights = take (1536 + a.count - 1536) (drop 1536 a.words.now) in
+    let p : c.position.result ≡ place a.height heights =
+    position_from_yields_List (is a.height) _ _ c.position.result c.position.ensures.ran (YieldsList-from_slice heights c.iter.ensures.rest) (λ x b q k. search (rules, tests)) in
+    p ∙ ap (place a.height) (live_col 6 a.count a.words.now (omega arith) (omega arith) c.requires.0)
 
-pub overflow_add-i : goal.overflow_add-i
-overflow_add-i c = omega arith
-
-pub offset_bounds-words-i : goal.offset_bounds-words-i
-offset_bounds-words-i c = omega arith
-
-pub bounds-words-i : goal.bounds-words-i
-bounds-words-i c = omega arith
-
-pub returns-then-words-i : goal.returns-then-words-i
+pub returns-in-Some : goal.returns-in-Some
 unfolding decode
-returns-then-words-i c =
-    let at-loop = c in
-    let a = at-loop.args in
-    let ws = a.words.now in
-    let m = a.count in
-    let i = at-loop.loop-i.i in
-    ap At (c.entry_of-e.ensures ∙ entry_decode i ws (omega arith))
-    ∙ sym (at-loop.loop-i.invariant.1 ∙ turn a.height m i ws true (omega arith) (omega arith) (eq-eqb _ _ c.if-words-i.true))
+returns-in-Some c =
+    let a = c.args in
+    let p = found (goal.at.returns-in-Some c).After-position in
+    let live = take a.count (rows 256 a.words.now) in
+    ap Some (c.entry_of.ensures ∙ sym (get_or-take a.count (rows 256 a.words.now) c.in-Some.i blank (omega (arith, c.in-Some.ensures.bound)))) ∙ ap (λ (o : Option ℕ). front_of o live) (sym c.in-Some.is ∙ p) ∙ sym (at_place a.height live)
 
-pub overflow_add-i-in-loop-i : goal.overflow_add-i-in-loop-i
-overflow_add-i-in-loop-i c = omega arith
-
-pub loop-i-smaller : goal.loop-i-smaller
-loop-i-smaller c = omega arith
-
-pub loop-i-preserved : goal.loop-i-preserved
-loop-i-preserved c =
-    let at-loop = c in
-    let a = at-loop.args in
-    let ws = a.words.now in
-    let m = a.count in
-    let i = at-loop.loop-i.i in
-    (omega arith, at-loop.loop-i.invariant.1 ∙ rw add-one (turn a.height m i ws false (omega arith) (omega arith) (ne_eqb _ _ c.if-words-i.false)))
-
-pub returns : goal.returns
-unfolding decode at_height
-returns c =
-    let at-loop = c in
-    let a = at-loop.args in
-    let ws = a.words.now in
-    let m = a.count in
-    let i = at-loop.loop-i.i in
-    let e : i ≡ m = omega arith in
-    sym (at-loop.loop-i.invariant.1 ∙ ap (λ (n : ℕ). at_height a.height (drop n (take m (rows 256 ws)))) e ∙ ap (at_height a.height) (live_end m ws (omega arith)))
+pub returns-in-None : goal.returns-in-None
+unfolding decode
+returns-in-None c =
+    let a = c.args in
+    let live = take a.count (rows 256 a.words.now) in
+    ap (λ (o : Option ℕ). front_of o live) (sym c.in-None.is ∙ found (goal.at.returns-in-None c).After-position) ∙ sym (at_place a.height live)

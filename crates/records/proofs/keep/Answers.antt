@@ -1,5 +1,4 @@
 -- `records::keep` meets its contract: at the loop's head the columns below k are done. Assumes nothing.
-use Prim.Native.Nat.{◌-◌}
 use native.Mathlib.Omega.{arith}
 use Rattle.laws.specs.Rows.{upto_start, upto_call}
 use Rattle.laws.specs.Tables.{kept_col, decode_kept}
@@ -7,52 +6,15 @@ use Rattle.records.proofs.Live.{all_columns}
 use Rattle.records.proofs.keep.Goals as goal
 
 pub loop-k-init : goal.loop-k-init
-loop-k-init c =
-    let at-start = c in
-    (omega arith, upto_start (kept_col at-start.args.marks.now) at-start.args.words.now)
-
-pub overflow_mul-a : goal.overflow_mul-a
-overflow_mul-a c = omega arith
-
-pub overflow_add-e : goal.overflow_add-e
-overflow_add-e c = omega arith
-
-pub offset_bounds-words-a : goal.offset_bounds-words-a
-offset_bounds-words-a c = omega arith
-
-pub slice_bounds-keep_unmarked-count : goal.slice_bounds-keep_unmarked-count
-slice_bounds-keep_unmarked-count c = omega arith
-
-pub slice_bounds-keep_unmarked-start : goal.slice_bounds-keep_unmarked-start
-slice_bounds-keep_unmarked-start c = omega arith
-
-pub slice_bounds-keep_unmarked-end : goal.slice_bounds-keep_unmarked-end
-slice_bounds-keep_unmarked-end c = omega arith
-
-pub keep_unmarked-requires : goal.keep_unmarked-requires
-keep_unmarked-requires c = omega arith
-
-pub overflow_add-k : goal.overflow_add-k
-overflow_add-k c = omega arith
-
-pub loop-k-smaller : goal.loop-k-smaller
-loop-k-smaller c = omega arith
+loop-k-init c = upto_start (kept_col c.args.marks.now) c.args.words.now
 
 pub loop-k-preserved : goal.loop-k-preserved
 loop-k-preserved c =
-    let at_call = c in
-    let at-loop = at_call in
-    let at-start = at-loop in (
-      omega arith,
-      upto_call (kept_col at-start.args.marks.now) at-loop.loop-k.k at-start.args.words.now at-loop.loop-k.words at_call.keep_unmarked.new.col
-          (omega arith) at-start.requires.0 at_call.keep_unmarked.auto.col at_call.keep_unmarked.ensures at-loop.loop-k.invariant.1,
-    )
-
-pub shape_of-words : goal.shape_of-words
-shape_of-words c = c.loop-k.invariant.1.long
+    let l = c.loop-k in
+    let kept = c.keep_unmarked in
+    upto_call (kept_col c.args.marks.now) l.k c.args.words.now l.words kept.new.col (omega arith) c.requires.0 kept.auto.col kept.ensures l.invariant
 
 pub returns : goal.returns
 returns c =
-    let at-loop = c in
-    let at-start = at-loop in
-    decode_kept at-start.args.marks.now at-start.args.words.now at-loop.loop-k.words at-start.requires.0 (all_columns at-loop.loop-k.invariant (omega arith))
+    let l = c.loop-k in
+    decode_kept c.args.marks.now c.args.words.now l.words c.requires.0 (all_columns l.invariant (omega arith) (omega arith))

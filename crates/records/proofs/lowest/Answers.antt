@@ -1,7 +1,7 @@
 -- `records::lowest` meets its contract. Assumes nothing.
+use Rattle.std.specs.Prelude.{Some}
 use mathlib.Core.Path.{sym, ap, ◌∙◌}
 use borrow.Author.Tests.{lt-ltb, le-ltb}
-use Rattle.model.specs.declared.Front.TheVariants.{At}
 use Rattle.records.specs.Places.{front_at}
 use Rattle.records.proofs.lowest.Goals as goal
 
@@ -10,7 +10,7 @@ unfolding front_at
 returns-then-at-count c =
     let at_place = c in
     let a = at_place.args in
-    sym (at_place.lowest_place-at.ensures ∙ rw (lt-ltb at_place.lowest_place-at.result a.count c.if-at-count.true) (ap At (sym c.entry_of-e.ensures)))
+    sym (at_place.lowest_place-at.ensures ∙ rw (lt-ltb at_place.lowest_place-at.result a.count c.if-at-count.true) (ap Some (sym c.entry_of-e.ensures)))
 
 pub returns : goal.returns
 unfolding front_at

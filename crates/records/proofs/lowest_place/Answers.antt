@@ -1,4 +1,5 @@
 -- `records::lowest_place` meets its contract: at the loop's head `best` is the place of the lowest from i on. Assumes nothing.
+use Rattle.std.specs.Prelude.{None, Some, Option}
 use mathlib.Core.Path.{◌≡◌, refl, sym, ap, ◌∙◌}
 use mathlib.Core.List.{List}
 use Prim.Native.Nat.{ℕ, suc, ◌+◌, ◌-◌, ◌≤◌, ◌<◌}
@@ -9,15 +10,14 @@ use Rattle.model.specs.Lists.{count}
 use Rattle.model.specs.Records.{lowest, lower}
 use Rattle.model.specs.Layout.{entry_at, rows, decode}
 use Rattle.laws.specs.Rows.{rows_at, live_cons, live_end, word_at}
-use Rattle.model.specs.declared.Front.{Front}
-use Rattle.model.specs.declared.Front.TheVariants.{At, Nothing}
 use Rattle.records.specs.Places.{front_at}
 use Rattle.records.proofs.lowest_place.Invariants.{Lowest, none, some}
 use Rattle.records.proofs.lowest_place.Goals as goal
+use Rattle.model.specs.declared.Entry.{Entry}
 
 -- what is lowest from j on, by what is lowest after it
 module _ (ws : List ℕ) (m i j : ℕ) (p : i ≡ suc j) (k : m ≤ 256) (h : i ≤ m) where
-  from : (f : Front) → lowest (drop i (take m (rows 256 ws))) ≡ f → lowest (drop j (take m (rows 256 ws))) ≡ lower (entry_at (drop j ws)) f
+  from : (f : Option Entry) → lowest (drop i (take m (rows 256 ws))) ≡ f → lowest (drop j (take m (rows 256 ws))) ≡ lower (entry_at (drop j ws)) f
   unfolding lowest
   from f e =
       ap lowest (live_cons m j ws (omega arith) k) ∙ ap (λ (n : ℕ). lower (entry_at (drop j ws)) (lowest (drop n (take m (rows 256 ws))))) (sym p)
@@ -26,68 +26,48 @@ module _ (ws : List ℕ) (m i j : ℕ) (p : i ≡ suc j) (k : m ≤ 256) (h : i 
   height : (entry_at (drop j ws)).height ≡ get_or ws (j + 1536) 0
   height = word_at j ws 6 (omega arith)
 
-  end : i ≡ m → lowest (drop i (take m (rows 256 ws))) ≡ Nothing
+  end : i ≡ m → lowest (drop i (take m (rows 256 ws))) ≡ None
   unfolding lowest
   end e = ap (λ (n : ℕ). lowest (drop n (take m (rows 256 ws)))) e ∙ ap lowest (live_end m ws k)
 
   -- a turn: the record at j is as low
   down : (best low : ℕ) → get_or ws (j + 1536) 0 ≤ low → Lowest ws m best low i → Lowest ws m j (get_or ws (j + 1536) 0) j
-  down best low le (none e f g) = some (omega arith) (omega arith) (from Nothing (end e)) height
+  down best low le (none e f g) = some (omega arith) (omega arith) (from None (end e)) height
   down best low le (some b l e f) =
-      some (omega arith) (omega arith) (from (At (entry_at (drop best ws))) e ∙ rw (le-leb (entry_at (drop j ws)).height (entry_at (drop best ws)).height (omega (arith, height, f)))) height
+      some (omega arith) (omega arith) (from (Some (entry_at (drop best ws))) e ∙ rw (le-leb (entry_at (drop j ws)).height (entry_at (drop best ws)).height (omega (arith, height, f)))) height
 
   -- or it is higher
   stays : (best low : ℕ) → low < get_or ws (j + 1536) 0 → get_or ws (j + 1536) 0 < 18446744073709551616 → Lowest ws m best low i → Lowest ws m best low j
   stays best low lt fits (none e f g) = absurd (omega (arith, g))
   stays best low lt fits (some b l e f) =
-      some (omega arith) l (from (At (entry_at (drop best ws))) e ∙ rw (lt-leb (entry_at (drop j ws)).height (entry_at (drop best ws)).height (omega (arith, height, f)))) f
+      some (omega arith) l (from (Some (entry_at (drop best ws))) e ∙ rw (lt-leb (entry_at (drop j ws)).height (entry_at (drop best ws)).height (omega (arith, height, f)))) f
 
 done : (ws : List ℕ) (m best low i : ℕ) → i ≡ 0 → m ≤ 256 → Lowest ws m best low i → lowest (take m (rows 256 ws)) ≡ front_at m best (rows 256 ws)
 unfolding front_at lowest
 done ws m best low i z k (none e f g) =
     rw (le-ltb best m (omega (arith, f))) (ap (λ (n : ℕ). lowest (drop n (take m (rows 256 ws)))) (sym z ∙ e) ∙ ap lowest (live_end m ws k))
 done ws m best low i z k (some b l e f) =
-    rw (lt-ltb best m l) (ap (λ (n : ℕ). lowest (drop n (take m (rows 256 ws)))) (sym z) ∙ e ∙ ap At (sym (rows_at 256 best ws (omega arith))))
+    rw (lt-ltb best m l) (ap (λ (n : ℕ). lowest (drop n (take m (rows 256 ws)))) (sym z) ∙ e ∙ ap Some (sym (rows_at 256 best ws (omega arith))))
 
 pub loop-i-init : goal.loop-i-init
-loop-i-init c = (omega arith, none refl refl refl)
-
-pub overflow_sub-i : goal.overflow_sub-i
-overflow_sub-i c = omega arith
-
-pub overflow_add-g : goal.overflow_add-g
-overflow_add-g c = omega arith
-
-pub offset_bounds-words-i : goal.offset_bounds-words-i
-offset_bounds-words-i c = omega arith
-
-pub bounds-words-i : goal.bounds-words-i
-bounds-words-i c = omega arith
-
-pub loop-i-smaller-then-g-low : goal.loop-i-smaller-then-g-low
-loop-i-smaller-then-g-low c = omega arith
+loop-i-init c = none refl refl refl
 
 pub loop-i-preserved-then-g-low : goal.loop-i-preserved-then-g-low
 loop-i-preserved-then-g-low c =
-    let at-loop = c in
-    let a = at-loop.args in
-    let l = at-loop.loop-i in
-    (omega arith, down a.words.now a.count l.i (l.i - 1) (omega arith) (omega arith) (omega arith) l.best l.low c.if-g-low.true l.invariant.1)
-
-pub loop-i-smaller : goal.loop-i-smaller
-loop-i-smaller c = omega arith
+    let a = c.args in
+    let l = c.loop-i in
+    down a.words.now a.count l.i (l.i - 1) (omega arith) (omega arith) (omega arith) l.best l.low c.if-g-low.true l.invariant
 
 pub loop-i-preserved : goal.loop-i-preserved
 loop-i-preserved c =
-    let at-loop = c in
-    let a = at-loop.args in
-    let l = at-loop.loop-i in
-    let fits = c.shared_slice_known-1.given (l.i - 1 + 1536) in
-    (omega arith, stays a.words.now a.count l.i (l.i - 1) (omega arith) (omega arith) (omega arith) l.best l.low c.if-g-low.false (omega (arith, fits)) l.invariant.1)
+    let a = c.args in
+    let l = c.loop-i in
+    let fits = c.type_inv.words (l.i - 1 + 1536) in
+    stays a.words.now a.count l.i (l.i - 1) (omega arith) (omega arith) (omega arith) l.best l.low c.if-g-low.false (omega (arith, fits)) l.invariant
 
 pub returns : goal.returns
 unfolding decode
 returns c =
     let l = c.loop-i in
     let a = c.args in
-    done a.words.now a.count l.best l.low l.i (omega arith) (omega arith) l.invariant.1
+    done a.words.now a.count l.best l.low l.i (omega arith) (omega arith) l.invariant

@@ -102,76 +102,31 @@ done m false low n r h (q, z) e = e ∙ sym z ∙ above m low n false h (q, z)
 
 pub loop-i-init : goal.loop-i-init
 unfolding oldest
-loop-i-init c = (omega arith, (omega arith, (refl, ap (oldest c.args.owner) (live_end c.args.count c.args.words.now (omega arith)))))
-
-pub overflow_sub-i : goal.overflow_sub-i
-overflow_sub-i c = omega arith
-
-pub overflow_add-o : goal.overflow_add-o
-overflow_add-o c = omega arith
-
-pub offset_bounds-words-i : goal.offset_bounds-words-i
-offset_bounds-words-i c = omega arith
-
-pub bounds-words-i : goal.bounds-words-i
-bounds-words-i c = omega arith
-
-pub overflow_add-t : goal.overflow_add-t
-overflow_add-t c = omega arith
-
-pub offset_bounds-words-i-in-loop-i : goal.offset_bounds-words-i-in-loop-i
-offset_bounds-words-i-in-loop-i c = omega arith
-
-pub bounds-words-i-in-loop-i : goal.bounds-words-i-in-loop-i
-bounds-words-i-in-loop-i c = omega arith
-
-pub low_after-low-requires : goal.low_after-low-requires
-low_after-low-requires c = tt
-
-pub any_after-any-requires : goal.any_after-any-requires
-any_after-any-requires c = tt
-
-pub overflow_sub-least : goal.overflow_sub-least
-overflow_sub-least c = omega arith
+loop-i-init c = (omega arith, (refl, ap (oldest c.args.owner) (live_end c.args.count c.args.words.now (omega arith))))
 
 pub returns-then-low-floor : goal.returns-then-low-floor
 unfolding decode
 returns-then-low-floor c =
-    let at-any = c in
-    let at_read = at-any in
-    let at-loop = at_read in
-    let a = at-loop.args in
-    let l = at-loop.loop-i in
-    let fits = at_read.shared_slice_known-in-loop-i-2-1.given (l.i - 1 + 1280) in
+    let a = c.args in
+    let l = c.loop-i in
+    let fits = c.type_inv.words (l.i - 1 + 1280) in
     let live = take a.count (rows 256 a.words.now) in
     let last =
-    turn a.owner a.count l.i (l.i - 1) l.low at-any.low_after-low.result l.any at-any.any_after-any.result a.words.now (omega arith) (omega arith)
-    (omega arith) (omega (arith, fits)) l.invariant.1.1 at-any.low_after-low.ensures at-any.any_after-any.ensures in
+    turn a.owner a.count l.i (l.i - 1) l.low c.low_after-low.result l.any c.any_after-any.result a.words.now (omega arith) (omega arith)
+    (omega arith) (omega (arith, fits)) l.invariant.1 c.low_after-low.ensures c.any_after-any.ensures in
     let one : suc (a.floor - 1) ≡ a.floor = omega arith in
     one ∙ sym (older_all a.floor a.owner (l.i - 1) live (omega arith)
-    (below a.floor at-any.low_after-low.result (oldest a.owner (drop (l.i - 1) live)) at-any.any_after-any.result (omega arith) (omega arith) last))
-
-pub loop-i-smaller : goal.loop-i-smaller
-loop-i-smaller c = omega arith
+    (below a.floor c.low_after-low.result (oldest a.owner (drop (l.i - 1) live)) c.any_after-any.result (omega arith) (omega arith) last))
 
 pub loop-i-preserved : goal.loop-i-preserved
 loop-i-preserved c =
-    let at-any = c in
-    let at_read = at-any in
-    let at-loop = at_read in
-    let a = at-loop.args in
-    let l = at-loop.loop-i in
-    let fits = at_read.shared_slice_known-in-loop-i-2-1.given (l.i - 1 + 1280) in (
+    let a = c.args in
+    let l = c.loop-i in
+    let fits = c.type_inv.words (l.i - 1 + 1280) in (
       omega arith,
-      (
-        omega arith,
-        turn a.owner a.count l.i (l.i - 1) l.low at-any.low_after-low.result l.any at-any.any_after-any.result a.words.now (omega arith) (omega arith)
-            (omega arith) (omega (arith, fits)) l.invariant.1.1 at-any.low_after-low.ensures at-any.any_after-any.ensures,
-      ),
+      turn a.owner a.count l.i (l.i - 1) l.low c.low_after-low.result l.any c.any_after-any.result a.words.now (omega arith) (omega arith)
+          (omega arith) (omega (arith, fits)) l.invariant.1 c.low_after-low.ensures c.any_after-any.ensures,
     )
-
-pub oldest_by-requires : goal.oldest_by-requires
-oldest_by-requires c = tt
 
 pub returns : goal.returns
 unfolding decode
@@ -179,5 +134,5 @@ returns c =
     let l = c.loop-i in
     let a = c.args in
     let e : l.i ≡ 0 = omega arith in
-    done a.floor l.any l.low (oldest a.owner (drop 0 (take a.count (rows 256 a.words.now)))) (stored c.oldest_by.result) l.invariant.1.0
-    (subst (λ (n : ℕ). Kept l.any l.low (oldest a.owner (drop n (take a.count (rows 256 a.words.now))))) e l.invariant.1.1) c.oldest_by.ensures
+    done a.floor l.any l.low (oldest a.owner (drop 0 (take a.count (rows 256 a.words.now)))) (stored c.oldest_by.result) l.invariant.0
+    (subst (λ (n : ℕ). Kept l.any l.low (oldest a.owner (drop n (take a.count (rows 256 a.words.now))))) e l.invariant.1) c.oldest_by.ensures

@@ -2,7 +2,7 @@
 -- above the floor. Assumes nothing.
 use mathlib.Core.Path.{◌≡◌}
 use mathlib.Core.Bool.{Bool, true, false}
-use Prim.Native.Nat.{ℕ, suc, ◌-◌, ◌≤◌}
+use Prim.Native.Nat.{ℕ, suc, ◌≤◌}
 use lib.ListN.{take, drop}
 use Rattle.model.specs.Seats.{oldest}
 use Rattle.model.specs.Layout.{rows}
@@ -14,7 +14,4 @@ Kept true low n = n ≡ suc low
 Kept false low n = (low ≡ 18446744073709551615) × (n ≡ 0)
 
 abbrev pub invariant-loop-i : goal.invariant-loop-i
-invariant-loop-i l = (l.i ≤ l.count) × ((l.floor ≤ l.low) × Kept l.any l.low (oldest l.owner (drop l.i (take l.count (rows 256 l.words)))))
-
-abbrev pub decreases-loop-i : goal.decreases-loop-i
-decreases-loop-i l = l.i
+invariant-loop-i l = (l.floor ≤ l.low) × Kept l.any l.low (oldest l.owner (drop l.i (take l.count (rows 256 l.words))))

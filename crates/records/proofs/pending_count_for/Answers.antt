@@ -1,91 +1,41 @@
--- `records::pending_count_for` meets its contract: at the loop's head `n` is the count from i on. Assumes nothing.
-use mathlib.Core.Path.{◌≡◌, sym, ap, ◌∙◌}
-use mathlib.Core.Bool.{Bool, true, false, cond}
-use mathlib.Core.List.{List}
-use Prim.Native.Nat.{ℕ, suc, ◌+◌, ◌-◌, ◌≤◌, ◌<◌}
+-- `records::pending_count_for` meets its contract: at the loop's head `n` and the count from the seat on are the count of all. Assumes nothing.
+use mathlib.Core.Path.{◌≡◌, refl, ap, ◌∙◌}
+use mathlib.Core.Bool.{true, false, cond}
+use mathlib.Core.List.{List, [], ◌∷◌, map}
+use Prim.Native.Nat.{ℕ, suc}
 use native.Mathlib.Omega.{arith}
-use native.Mathlib.Numerals.{add-one}
-use lib.ListN.{take, drop, get_or}
 use lib.Dec.{eqb}
 use borrow.Author.Tests.{eq-eqb, ne_eqb}
 use Rattle.model.specs.Lists.{count}
-use Rattle.model.specs.Records.{owned_by, pending_count_for}
-use Rattle.model.specs.Layout.{entry_at, rows, decode}
-use Rattle.laws.specs.Rows.{live_cons, live_end, word_at}
+use Rattle.model.specs.Records.{pending_count_for}
+use Rattle.model.specs.Layout.{field, decode}
+use Rattle.model.specs.declared.Entry.{Entry}
+use Rattle.column.proofs.Laws.{count_turn, count_end}
+use Rattle.records.proofs.Live.{live_col}
+use Rattle.records.proofs.pending_count_for.Invariants.{S, is}
 use Rattle.records.proofs.pending_count_for.Goals as goal
+use Rattle.records.proofs.pending_count_for.Goals.{then-seat-owner, else-seat-owner}
 
--- a turn, by its test
-turn : (o m j n : ℕ) (ws : List ℕ) (b : Bool) → j < m → m ≤ 256 → eqb (get_or ws (j + 1024) 0) o ≡ b → n ≡ pending_count_for o (drop (suc j) (take m (rows 256 ws)))
-    → cond b (suc n) n ≡ pending_count_for o (drop j (take m (rows 256 ws)))
+of_seats : (o : ℕ) (l : List Entry) → count (is o) (map (field 4) l) ≡ pending_count_for o l
 unfolding pending_count_for count
-turn o m j n ws b h k e was =
-    let x : eqb (entry_at (drop j ws)).owner o ≡ b = ap (λ (v : ℕ). eqb v o) (word_at j ws 4 (omega arith)) ∙ e in
-    (λ i. cond (sym x i) (suc (was i)) (was i)) ∙ sym (ap (count (owned_by o)) (live_cons m j ws h k))
+of_seats o [] = refl
+of_seats o (e ∷ l) = ap (λ (n : ℕ). cond (eqb e.owner o) (suc n) n) (of_seats o l)
 
--- at i, where the turn is at i - 1
-was_at : (o m i n : ℕ) (ws : List ℕ) → 0 < i → n ≡ pending_count_for o (drop i (take m (rows 256 ws))) → n ≡ pending_count_for o (drop (suc (i - 1)) (take m (rows 256 ws)))
-was_at o m i n ws h e = let p : i ≡ suc (i - 1) = omega arith in e ∙ ap (λ (k : ℕ). pending_count_for o (drop k (take m (rows 256 ws)))) p
-
-pub loop-i-init : goal.loop-i-init
-unfolding pending_count_for count
-loop-i-init c = (omega arith, (omega arith, sym (ap (pending_count_for c.args.owner) (live_end c.args.count c.args.words.now (omega arith)))))
-
-pub overflow_sub-i : goal.overflow_sub-i
-overflow_sub-i c = omega arith
-
-pub overflow_add-i : goal.overflow_add-i
-overflow_add-i c = omega arith
-
-pub offset_bounds-words-i : goal.offset_bounds-words-i
-offset_bounds-words-i c = omega arith
-
-pub bounds-words-i : goal.bounds-words-i
-bounds-words-i c = omega arith
-
-pub overflow_add-n : goal.overflow_add-n
-overflow_add-n c = omega arith
-
-pub loop-i-smaller-then-words-i : goal.loop-i-smaller-then-words-i
-loop-i-smaller-then-words-i c = omega arith
-
-pub loop-i-preserved-then-words-i : goal.loop-i-preserved-then-words-i
-loop-i-preserved-then-words-i c =
-    let at-loop = c in
-    let at-start = at-loop in
-    let a = at-start.args in
-    let i = at-loop.loop-i.i in
-    let n = at-loop.loop-i.n in (
-      omega arith,
-      (
-        omega arith,
-        rw add-one
-            (turn a.owner a.count (i - 1) n a.words.now true (omega arith) (omega arith) (eq-eqb _ _ c.if-words-i.true)
-            (was_at a.owner a.count i n a.words.now (omega arith) at-loop.loop-i.invariant.1.1)),
-      ),
-    )
-
-pub loop-i-smaller : goal.loop-i-smaller
-loop-i-smaller c = omega arith
-
-pub loop-i-preserved : goal.loop-i-preserved
-loop-i-preserved c =
-    let at-loop = c in
-    let at-start = at-loop in
-    let a = at-start.args in
-    let i = at-loop.loop-i.i in
-    let n = at-loop.loop-i.n in (
-      omega arith,
-      (
-        omega arith,
-        turn a.owner a.count (i - 1) n a.words.now false (omega arith) (omega arith) (ne_eqb _ _ c.if-words-i.false)
-            (was_at a.owner a.count i n a.words.now (omega arith) at-loop.loop-i.invariant.1.1),
-      ),
-    )
+pub loop-seat-preserved : goal.loop-seat-preserved
+loop-seat-preserved c =
+    let a = c.args in
+    let l = c.loop-seat in
+    let turn = count_turn (is a.owner) (S a.count a.words.now) l.seat-index 0 in
+    elim c.if-seat-owner.branch [
+      | then-seat-owner w ↦ let t = turn true (omega arith) (eq-eqb _ _ w.if-seat-owner.true) in (omega arith, omega (arith, t, l.invariant.1))
+      | else-seat-owner w ↦ let t = turn false (omega arith) (ne_eqb _ _ w.if-seat-owner.false) in (omega arith, omega (arith, t, l.invariant.1))
+    ]
 
 pub returns : goal.returns
 unfolding decode
 returns c =
-    let at-loop = c in
-    let a = at-loop.args in
-    let e : at-loop.loop-i.i ≡ 0 = omega arith in
-    at-loop.loop-i.invariant.1.1 ∙ ap (λ (n : ℕ). pending_count_for a.owner (drop n (take a.count (rows 256 a.words.now)))) e
+    let a = c.args in
+    let l = c.loop-seat in
+    let seats = S a.count a.words.now in
+    let all : l.n ≡ count (is a.owner) seats = omega (arith, count_end (is a.owner) seats l.seat-index (omega arith), l.invariant.1) in
+    all ∙ ap (count (is a.owner)) (live_col 4 a.count a.words.now (omega arith) (omega arith) c.requires.0) ∙ of_seats a.owner _

@@ -1,11 +1,7 @@
 -- `records::remove` meets its contract: at the loop's head the columns below k are done. Assumes nothing.
-use Prim.Native.Nat.{◌-◌, ◌≤◌}
 use Rattle.laws.specs.Rows.{Upto}
 use Rattle.laws.specs.Tables.{removed_col}
 use Rattle.records.proofs.remove.Given as goal
 
 abbrev pub invariant-loop-k : goal.invariant-loop-k
-invariant-loop-k l = (l.k ≤ 8) × Upto (removed_col l.at) l.k l.initial.words l.words
-
-abbrev pub decreases-loop-k : goal.decreases-loop-k
-decreases-loop-k l = 8 - l.k
+invariant-loop-k l = Upto (removed_col l.at) l.k l.initial.words l.words

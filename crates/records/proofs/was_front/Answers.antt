@@ -1,71 +1,32 @@
--- `records::was_front` meets its contract: what holds of all the records holds of those from i on. Assumes nothing.
-use mathlib.Core.Path.{◌≡◌, refl, sym, ap, ◌∙◌}
-use mathlib.Core.Bool.{Bool, true, false, ◌&&◌}
-use mathlib.Core.List.{List}
-use Prim.Native.Nat.{ℕ, suc, ◌+◌, ◌-◌, ◌≤◌, ◌<◌}
+-- `records::was_front` meets its contract. Assumes nothing.
+use mathlib.Core.Path.{◌≡◌, refl, ap, ◌∙◌}
+use mathlib.Core.Bool.{Bool, ◌&&◌}
+use mathlib.Core.List.{List, [], ◌∷◌, map}
+use Prim.Native.Nat.{ℕ, ◌+◌, ◌-◌}
 use native.Mathlib.Omega.{arith}
-use native.Mathlib.Numerals.{add-one}
-use lib.ListN.{take, drop, get_or}
+use lib.ListN.{take, drop}
 use lib.Dec.{ltb}
-use borrow.Author.Tests.{lt-ltb, le-ltb}
-use Rattle.model.specs.Lists.{all, count}
+use Rattle.std.specs.List.{list_all}
+use Rattle.std.proofs.Common.{rules, tests}
+use Rattle.std.proofs.lemmas.Iterator.{YieldsList-from_slice}
+use Rattle.std.proofs.lemmas.Iterator.Search.{all_from_yields_List}
+use Rattle.model.specs.Lists.{all}
 use Rattle.model.specs.Pace.{was_front}
-use Rattle.model.specs.Layout.{entry_at, rows, decode}
-use Rattle.laws.specs.Rows.{live_cons, live_end, word_at}
+use Rattle.model.specs.Layout.{field, decode}
+use Rattle.model.specs.declared.Entry.{Entry}
+use Rattle.records.proofs.Live.{live_col}
 use Rattle.records.proofs.was_front.Goals as goal
 
--- a turn, by its test
-turn : (n m i : ℕ) (ws : List ℕ) (b : Bool) → i < m → m ≤ 256 → ltb n (get_or ws (i + 1536) 0) ≡ b
-    → was_front n (drop i (take m (rows 256 ws))) ≡ (b && was_front n (drop (suc i) (take m (rows 256 ws))))
+of_heights : (n : ℕ) (l : List Entry) → list_all (λ h. ltb n h) (map (field 6) l) ≡ was_front n l
 unfolding was_front all
-turn n m i ws b h k e =
-    let x : ltb n (entry_at (drop i ws)).height ≡ b = ap (λ (v : ℕ). ltb n v) (word_at i ws 6 (omega arith)) ∙ e in
-    ap (was_front n) (live_cons m i ws h k) ∙ ap (λ (t : Bool). t && was_front n (drop (suc i) (take m (rows 256 ws)))) x
-
-pub loop-i-init : goal.loop-i-init
-loop-i-init c = (omega arith, refl)
-
-pub overflow_add-i : goal.overflow_add-i
-overflow_add-i c = omega arith
-
-pub offset_bounds-words-i : goal.offset_bounds-words-i
-offset_bounds-words-i c = omega arith
-
-pub bounds-words-i : goal.bounds-words-i
-bounds-words-i c = omega arith
-
-pub returns-then-words-i : goal.returns-then-words-i
-unfolding decode
-returns-then-words-i c =
-    let at-loop = c in
-    let a = at-loop.args in
-    let ws = a.words.now in
-    let m = a.count in
-    let i = at-loop.loop-i.i in
-    sym (at-loop.loop-i.invariant.1 ∙ turn a.height m i ws false (omega arith) (omega arith) (le-ltb _ _ c.if-words-i.true))
-
-pub overflow_add-i-in-loop-i : goal.overflow_add-i-in-loop-i
-overflow_add-i-in-loop-i c = omega arith
-
-pub loop-i-smaller : goal.loop-i-smaller
-loop-i-smaller c = omega arith
-
-pub loop-i-preserved : goal.loop-i-preserved
-loop-i-preserved c =
-    let at-loop = c in
-    let a = at-loop.args in
-    let ws = a.words.now in
-    let m = a.count in
-    let i = at-loop.loop-i.i in
-    (omega arith, at-loop.loop-i.invariant.1 ∙ rw add-one (turn a.height m i ws true (omega arith) (omega arith) (lt-ltb _ _ c.if-words-i.false)))
+of_heights n [] = refl
+of_heights n (e ∷ l) = ap (λ (b : Bool). ltb n e.height && b) (of_heights n l)
 
 pub returns : goal.returns
-unfolding decode was_front all
+unfolding decode
 returns c =
-    let at-loop = c in
-    let a = at-loop.args in
-    let ws = a.words.now in
-    let m = a.count in
-    let i = at-loop.loop-i.i in
-    let e : i ≡ m = omega arith in
-    sym (at-loop.loop-i.invariant.1 ∙ ap (λ (n : ℕ). was_front a.height (drop n (take m (rows 256 ws)))) e ∙ ap (was_front a.height) (live_end m ws (omega arith)))
+    let a = c.args in
+    let heights = take (1536 + a.count - 1536) (drop 1536 a.words.now) in
+    let higher : c.all.result ≡ list_all (λ h. ltb a.height h) heights =
+    all_from_yields_List (λ h. ltb a.height h) _ _ c.all.result c.all.ensures.ran (YieldsList-from_slice heights c.iter.ensures.rest) (λ x b q k. search (rules, tests)) in
+    higher ∙ ap (list_all (λ h. ltb a.height h)) (live_col 6 a.count a.words.now (omega arith) (omega arith) c.requires.0) ∙ of_heights a.height _

@@ -7,7 +7,6 @@ use lib.ListN.{get_or}
 use Rattle.model.specs.Reasons.{lowered}
 use Rattle.model.specs.LettingGo.{total_after, frontier_after}
 use Rattle.report_words.specs.Report.{release_at, releases_of, total_more, frontier_more}
-use native.Mathlib.Omega.{arith}
 use Rattle.report_words.proofs.totals_after.Goals as goal
 
 total_turn : (core : List ℕ) (i n t u : ℕ) → t ≡ total_after (releases_of i core) n → u ≡ t - get_or core (9 * i + 7) 0 → u ≡ total_after (releases_of (suc i) core) n
@@ -22,53 +21,10 @@ frontier_turn core i n t u was is =
 
 pub loop-i-init : goal.loop-i-init
 unfolding releases_of total_after frontier_after
-loop-i-init c = (omega arith, (refl, refl))
-
-pub overflow_mul-a : goal.overflow_mul-a
-overflow_mul-a c = omega arith
-
-pub overflow_add-a : goal.overflow_add-a
-overflow_add-a c = omega arith
-
-pub offset_bounds-gone-a : goal.offset_bounds-gone-a
-offset_bounds-gone-a c = omega arith
-
-pub bounds-gone-a : goal.bounds-gone-a
-bounds-gone-a c = omega arith
-
-pub overflow_add-a-in-loop-i : goal.overflow_add-a-in-loop-i
-overflow_add-a-in-loop-i c = omega arith
-
-pub offset_bounds-gone-a-in-loop-i : goal.offset_bounds-gone-a-in-loop-i
-offset_bounds-gone-a-in-loop-i c = omega arith
-
-pub bounds-gone-a-in-loop-i : goal.bounds-gone-a-in-loop-i
-bounds-gone-a-in-loop-i c = omega arith
-
-pub overflow_add-a-in-loop-i-2 : goal.overflow_add-a-in-loop-i-2
-overflow_add-a-in-loop-i-2 c = omega arith
-
-pub offset_bounds-gone-a-in-loop-i-2 : goal.offset_bounds-gone-a-in-loop-i-2
-offset_bounds-gone-a-in-loop-i-2 c = omega arith
-
-pub bounds-gone-a-in-loop-i-2 : goal.bounds-gone-a-in-loop-i-2
-bounds-gone-a-in-loop-i-2 c = omega arith
-
-pub overflow_add-i : goal.overflow_add-i
-overflow_add-i c = omega arith
-
-pub loop-i-smaller : goal.loop-i-smaller
-loop-i-smaller c = omega arith
+loop-i-init c = (refl, refl)
 
 pub loop-i-preserved : goal.loop-i-preserved
 loop-i-preserved c =
     let v = c.loop-i in
     let a = c.args in
-    rw add-one (omega arith, (total_turn a.gone.now v.i a.total v.t.total c.less_one-t.result.total v.invariant.1.0 c.less_one-t.ensures.0, frontier_turn a.gone.now v.i a.frontier v.t.frontier c.less_one-t.result.frontier v.invariant.1.1 c.less_one-t.ensures.1))
-
-pub returns : goal.returns
-returns c =
-    let v = c.loop-i in
-    let a = c.args in
-    let e : v.i ≡ a.n = omega (arith, v.invariant.0) in
-    rw e at v.invariant.1
+    rw add-one (total_turn a.gone.now v.i a.total v.t.total c.less_one-t.result.total v.invariant.0 c.less_one-t.ensures.0, frontier_turn a.gone.now v.i a.frontier v.t.frontier c.less_one-t.result.frontier v.invariant.1 c.less_one-t.ensures.1)

@@ -1,6 +1,5 @@
 -- `request_calls::listed_from` meets its contract. Assumes nothing.
 use mathlib.Core.Path.{refl}
-use Prim.Native.Nat.{◌-◌}
 use native.Mathlib.Omega.{arith}
 use Rattle.model.specs.Hash.{same}
 use Rattle.model.specs.declared.Hash.{Hash}
@@ -28,12 +27,6 @@ returns-then-equal c =
     let a = t.args in
     listed_here a.hashes.now a.heights.now a.h _ _ t.loop-i.invariant (turn (goal.at.returns-then-equal c).In-loop-i).0
     (seen (λ (x : Hash). same x a.h) _ _ _ _ c.hash_in-g.ensures c.equal.ensures c.if-equal.true)
-
-pub overflow_add-i : goal.overflow_add-i
-overflow_add-i c = omega (arith, c.loop-i-test.true)
-
-pub loop-i-smaller : goal.loop-i-smaller
-loop-i-smaller c = omega (arith, c.loop-i-test.true)
 
 pub loop-i-preserved : goal.loop-i-preserved
 loop-i-preserved c =

@@ -1,6 +1,6 @@
 -- `request_calls::listed_once` meets its contract. Assumes nothing.
 use mathlib.Core.Path.{refl}
-use Prim.Native.Nat.{◌+◌, ◌-◌}
+use Prim.Native.Nat.{◌+◌}
 use native.Mathlib.Omega.{arith}
 use lib.ListN.{drop}
 use Rattle.model.specs.Calls.{asks_in}
@@ -32,12 +32,6 @@ returns-then-listed_from c =
     let a = t.args in
     once_not a.hashes.now a.heights.now _ t.loop-i.invariant (turn (goal.at.returns-then-listed_from c).In-loop-i).0
     (seen (λ (x : Hash). listed x (drop (t.loop-i.i + 1) (asks_in a.hashes.now a.heights.now))) _ _ _ _ c.hash_in-h.ensures c.listed_from.ensures c.if-listed_from.true)
-
-pub overflow_add-i-in-loop-i : goal.overflow_add-i-in-loop-i
-overflow_add-i-in-loop-i c = omega (arith, c.loop-i-test.true)
-
-pub loop-i-smaller : goal.loop-i-smaller
-loop-i-smaller c = omega (arith, c.loop-i-test.true)
 
 pub loop-i-preserved : goal.loop-i-preserved
 loop-i-preserved c =

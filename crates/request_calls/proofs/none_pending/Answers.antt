@@ -1,6 +1,5 @@
 -- `request_calls::none_pending` meets its contract. Assumes nothing.
 use mathlib.Core.Path.{refl}
-use Prim.Native.Nat.{◌-◌}
 use native.Mathlib.Omega.{arith}
 use Rattle.model.specs.Layout.{window_of}
 use Rattle.model.specs.Records.{found, is_there}
@@ -32,12 +31,6 @@ returns-then-contains_pending c =
     let a = t.args in
     pending_one a.hashes.now a.heights.now (window_of a.words.now).queue.pending _ t.loop-i.invariant (turn (goal.at.returns-then-contains_pending c).In-loop-i).0
     (seen (λ (x : Hash). is_there (found x (window_of a.words.now).queue.pending)) _ _ _ _ c.hash_in-h.ensures c.contains_pending.ensures c.if-contains_pending.true)
-
-pub overflow_add-i : goal.overflow_add-i
-overflow_add-i c = omega (arith, c.loop-i-test.true)
-
-pub loop-i-smaller : goal.loop-i-smaller
-loop-i-smaller c = omega (arith, c.loop-i-test.true)
 
 pub loop-i-preserved : goal.loop-i-preserved
 loop-i-preserved c =

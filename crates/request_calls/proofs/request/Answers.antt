@@ -1,37 +1,31 @@
 -- `request_calls::request` meets its contract. Assumes nothing.
-use mathlib.Core.Bool.{true, false}
+use mathlib.Core.Path.{refl}
 use Rattle.model.specs.Calls.{asks_in}
 use Rattle.model.specs.Layout.{window_of}
+use Rattle.model.specs.Says.{number}
+use Rattle.refusals.specs.Passed.{number_some, passed_on}
 use Rattle.request_calls.specs.Answer.{answers_refused, answers}
 use Rattle.request_calls.proofs.request.Goals as goal
 
-pub request_list-k-requires : goal.request_list-k-requires
-request_list-k-requires c = c.requires
+pub request_list-requires : goal.request_list-requires
+request_list-requires c = c.requires
 
-pub returns-then-k-ne0 : goal.returns-then-k-ne0
-returns-then-k-ne0 c =
+pub returns-in_err-request_list : goal.returns-in_err-request_list
+returns-in_err-request_list c =
     let a = c.args in
-    let k = c.request_list-k in
-    answers_refused a.byte_headroom a.count_headroom (asks_in a.hashes.now a.heights.now) a.owner a.next a.clock (window_of a.words.now) k.result k.ensures.0 k.new.words c.if-k-ne0.true k.ensures.1
+    let r = c.in_err-request_list.field-0.0 in
+    rw (passed_on c.from_residual.result r c.from_residual.ensures.1)
+    (answers_refused a.byte_headroom a.count_headroom (asks_in a.hashes.now a.heights.now) a.owner a.next a.clock (window_of a.words.now) (number r) c.in_err-request_list.ensures.0 c.request_list.new.words (number_some r) c.in_err-request_list.ensures.1)
 
 pub has_request_capacity-room-requires : goal.has_request_capacity-room-requires
-has_request_capacity-room-requires c = c.request_list-k.ensures.1.whole
+has_request_capacity-room-requires c = c.request_list.ensures.1.whole
 
 pub set_clock-requires : goal.set_clock-requires
-set_clock-requires c = c.request_list-k.ensures.1.whole
-
-pub returns-then-room : goal.returns-then-room
-returns-then-room c =
-    let a = c.args in
-    let k = c.request_list-k in
-    let q = c.has_request_capacity-room in
-    let s = c.set_clock in
-    answers a.byte_headroom a.count_headroom (asks_in a.hashes.now a.heights.now) a.owner a.next a.clock (window_of a.words.now) k.result k.ensures.0 k.new.words s.new.words q.result true c.if-k-ne0.false k.ensures.1 q.ensures c.if-room.true s.ensures
+set_clock-requires c = c.request_list.ensures.1.whole
 
 pub returns : goal.returns
 returns c =
     let a = c.args in
-    let k = c.request_list-k in
     let q = c.has_request_capacity-room in
     let s = c.set_clock in
-    answers a.byte_headroom a.count_headroom (asks_in a.hashes.now a.heights.now) a.owner a.next a.clock (window_of a.words.now) k.result k.ensures.0 k.new.words s.new.words q.result false c.if-k-ne0.false k.ensures.1 q.ensures c.if-room.false s.ensures
+    answers a.byte_headroom a.count_headroom (asks_in a.hashes.now a.heights.now) a.owner a.next a.clock (window_of a.words.now) 0 c.in_ok-request_list.ensures.0 c.request_list.new.words s.new.words q.result q.result refl c.in_ok-request_list.ensures.1 q.ensures refl s.ensures

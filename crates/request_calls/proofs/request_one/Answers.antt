@@ -7,7 +7,7 @@ use Rattle.model.specs.declared.Hash.{Hash}
 use Rattle.laws.specs.Kept.{requestable_is}
 use Rattle.laws.specs.Whole.{sound_rises}
 use Rattle.records.specs.Places.{Finds}
-use Rattle.records.specs.declared.Place.TheVariants.{Free}
+use Rattle.std.specs.Prelude.{Err}
 use Rattle.requests.specs.Asks.{asks_within}
 use Rattle.request_calls.specs.Answer.{stays, one_there, one_full, one_good}
 use Rattle.request_calls.proofs.request_one.Goals as goal
@@ -25,8 +25,8 @@ returns-then-m-ge-PLACES c =
     let s = c in
     let a = s.args in
     let w = window_of a.words.now in
-    let f = subst (Finds c.hash_in-h.result w.queue.pending) c.in-Free.is c.find-p.ensures in (
-      one_full a.hashes.now a.heights.now s.requires.1.1 w (sound_rises a.clock w s.requires.0.1.0) c.hash_in-h.result c.hash_in-h.ensures c.in-Free.at f (omega (arith, s.requires.1.0, c.if-m-ge-PLACES.true)),
+    let f = subst (Finds c.hash_in-h.result w.queue.pending) c.in-Err.is c.find-p.ensures in (
+      one_full a.hashes.now a.heights.now s.requires.1.1 w (sound_rises a.clock w s.requires.0.1.0) c.hash_in-h.result c.hash_in-h.ensures c.in-Err.at f (omega (arith, s.requires.1.0, c.if-m-ge-PLACES.true)),
       stays 8 (asks_in a.hashes.now a.heights.now) a.owner a.next a.clock a.words.now s.requires.0.0 (λ z. omega (arith, z)),
     )
 
@@ -36,22 +36,22 @@ mark_found-requires c =
     let a = s.args in
     let w = window_of a.words.now in
     let e = c.hash_in-h.ensures in
-    let f = subst (Finds c.hash_in-h.result w.queue.pending) c.in-Free.is c.find-p.ensures in
-    let good = one_good a.hashes.now a.heights.now s.requires.1.1 w (sound_rises a.clock w s.requires.0.1.0) c.hash_in-h.result e c.in-Free.at f (omega (arith, s.requires.1.0, c.if-m-ge-PLACES.false)) in (
+    let f = subst (Finds c.hash_in-h.result w.queue.pending) c.in-Err.is c.find-p.ensures in
+    let good = one_good a.hashes.now a.heights.now s.requires.1.1 w (sound_rises a.clock w s.requires.0.1.0) c.hash_in-h.result e c.in-Err.at f (omega (arith, s.requires.1.0, c.if-m-ge-PLACES.false)) in (
       (s.requires.0.0, (s.requires.0.1.0, (requestable_is (asks_in a.hashes.now a.heights.now) w (sym good), s.requires.0.1.1))),
-      (s.requires.1.1, subst (λ (g : Hash). Finds g w.queue.pending (Free c.in-Free.at)) e f),
+      (s.requires.1.1, subst (λ (g : Hash). Finds g w.queue.pending (Err c.in-Err.at)) e f),
     )
 
-pub shape_of-words-in-Here : goal.shape_of-words-in-Here
-shape_of-words-in-Here c = refl
+pub shape_of-words-in-Ok : goal.shape_of-words-in-Ok
+shape_of-words-in-Ok c = refl
 
-pub returns-in-Here : goal.returns-in-Here
-returns-in-Here c =
+pub returns-in-Ok : goal.returns-in-Ok
+returns-in-Ok c =
     let s = c in
     let a = s.args in
     let w = window_of a.words.now in
-    let f = subst (Finds c.hash_in-h.result w.queue.pending) c.in-Here.is c.find-p.ensures in (
-      one_there a.hashes.now a.heights.now s.requires.1.1 w (sound_rises a.clock w s.requires.0.1.0) c.hash_in-h.result c.hash_in-h.ensures c.in-Here.field-0 f,
+    let f = subst (Finds c.hash_in-h.result w.queue.pending) c.in-Ok.is c.find-p.ensures in (
+      one_there a.hashes.now a.heights.now s.requires.1.1 w (sound_rises a.clock w s.requires.0.1.0) c.hash_in-h.result c.hash_in-h.ensures c.in-Ok.field-0 f,
       stays 7 (asks_in a.hashes.now a.heights.now) a.owner a.next a.clock a.words.now s.requires.0.0 (λ z. omega (arith, z)),
     )
 
@@ -60,7 +60,7 @@ returns-else-m-ge-PLACES c =
     let s = c in
     let a = s.args in
     let w = window_of a.words.now in
-    let f = subst (Finds c.hash_in-h.result w.queue.pending) c.in-Free.is c.find-p.ensures in (
-      one_good a.hashes.now a.heights.now s.requires.1.1 w (sound_rises a.clock w s.requires.0.1.0) c.hash_in-h.result c.hash_in-h.ensures c.in-Free.at f (omega (arith, s.requires.1.0, c.if-m-ge-PLACES.false)),
+    let f = subst (Finds c.hash_in-h.result w.queue.pending) c.in-Err.is c.find-p.ensures in (
+      one_good a.hashes.now a.heights.now s.requires.1.1 w (sound_rises a.clock w s.requires.0.1.0) c.hash_in-h.result c.hash_in-h.ensures c.in-Err.at f (omega (arith, s.requires.1.0, c.if-m-ge-PLACES.false)),
       c.mark_found.ensures,
     )

@@ -8,7 +8,7 @@ use Rattle.model.specs.Layout.{window_of}
 use Rattle.model.specs.Window.{Window, Queue}
 use Rattle.model.specs.declared.Hash.{Hash}
 use Rattle.records.specs.Places.{Finds}
-use Rattle.records.specs.declared.Place.TheVariants.{Free}
+use Rattle.std.specs.Prelude.{Err}
 use Rattle.rules.specs.Rows.{then, by_value}
 use Rattle.requests.specs.Asks.{hash_in, ask_at, asks_within}
 use Rattle.requests.specs.Puts.{Ready, Takes, ready_sound, ready_takes}
@@ -47,8 +47,8 @@ put_found-requires c =
     let e = c.hash_in-h.ensures in
     let takes : Takes (ask_at a.hashes.now a.heights.now 0).hash v =
     ready_takes {a = ask_at a.hashes.now a.heights.now 0} {rest = []} {w = v} (omega (arith, m, s.requires.0.1.0.mean_most)) (subst (λ (l : List Ask). Ready l v.queue) (one_ask a.hashes.now a.heights.now s.requires.1.0) ready) in
-    let finds : Finds c.hash_in-h.result v.queue.pending (Free a.at) =
-    subst (λ (g : Hash). Finds g v.queue.pending (Free a.at)) (sym e) (subst (λ (x : Queue). Finds (hash_in a.hashes.now 0) x.pending (Free a.at)) (sym q) s.requires.1.1) in
+    let finds : Finds c.hash_in-h.result v.queue.pending (Err a.at) =
+    subst (λ (g : Hash). Finds g v.queue.pending (Err a.at)) (sym e) (subst (λ (x : Queue). Finds (hash_in a.hashes.now 0) x.pending (Err a.at)) (sym q) s.requires.1.1) in
     (f.ensures.whole, (subst (λ (g : Hash). Takes g v) (sym e) takes, finds))
 
 pub returns : goal.returns

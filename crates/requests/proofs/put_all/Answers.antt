@@ -1,7 +1,7 @@
 -- `requests::put_all` meets its contract. Assumes nothing.
 use mathlib.Core.Path.{◌≡◌, refl, subst, ◌∙◌}
 use mathlib.Core.List.{List, []}
-use Prim.Native.Nat.{◌<◌, ◌-◌}
+use Prim.Native.Nat.{◌<◌}
 use native.Mathlib.Omega.{arith}
 use lib.ListN.{length, drop}
 use Rattle.model.specs.Calls.{Ask, asks_in}
@@ -13,7 +13,7 @@ use Rattle.requests.specs.Puts.{drop_all, Putting, putting_start, turn_takes, tu
 use Rattle.requests.proofs.put_all.Goals as goal
 
 pub loop-i-init : goal.loop-i-init
-loop-i-init c = let s = c in (omega arith, (s.requires.0, (putting_start (asks_in s.args.hashes.now s.args.heights.now) s.args.owner s.args.clock (window_of s.args.words.now) s.requires.1.1.0, refl)))
+loop-i-init c = let s = c in (s.requires.0, (putting_start (asks_in s.args.hashes.now s.args.heights.now) s.args.owner s.args.clock (window_of s.args.words.now) s.requires.1.1.0, refl))
 
 pub overflow_mul-i : goal.overflow_mul-i
 overflow_mul-i c = let s = c in omega (arith, asks_within s.args.hashes.now s.args.heights.now, s.requires.1.1.1, c.loop-i-test.true, s.well_formed)
@@ -35,23 +35,17 @@ put_one-requires c =
     let s = c in
     let l = c.loop-i in
     let within : l.i < length (asks_in s.args.hashes.now s.args.heights.now) = omega (arith, s.requires.1.1.1, c.loop-i-test.true) in
-    (l.invariant.1.0, turn_takes s.args.hashes.now s.args.heights.now s.args.owner s.args.clock (window_of s.args.words.now) l.i c.hash_in-h.result (window_of l.words) within c.hash_in-h.ensures s.requires.1.0 l.invariant.1.1.0)
-
-pub overflow_add-i : goal.overflow_add-i
-overflow_add-i c = omega arith
-
-pub loop-i-smaller : goal.loop-i-smaller
-loop-i-smaller c = omega (arith, c.loop-i-test.true)
+    (l.invariant.0, turn_takes s.args.hashes.now s.args.heights.now s.args.owner s.args.clock (window_of s.args.words.now) l.i c.hash_in-h.result (window_of l.words) within c.hash_in-h.ensures s.requires.1.0 l.invariant.1.0)
 
 pub loop-i-preserved : goal.loop-i-preserved
 loop-i-preserved c =
     let s = c in
     let l = c.loop-i in
     let within : l.i < length (asks_in s.args.hashes.now s.args.heights.now) = omega (arith, s.requires.1.1.1, c.loop-i-test.true) in
-    (omega (arith, c.loop-i-test.true), (c.put_one.ensures.whole, (turn_puts s.args.hashes.now s.args.heights.now s.args.owner s.args.clock (window_of s.args.words.now) l.i c.hash_in-h.result (window_of l.words) (window_of c.put_one.new.words) within c.hash_in-h.ensures s.requires.1.0 c.put_one.ensures.is l.invariant.1.1.0, c.put_one.auto.words ∙ l.invariant.1.1.1)))
+    (c.put_one.ensures.whole, (turn_puts s.args.hashes.now s.args.heights.now s.args.owner s.args.clock (window_of s.args.words.now) l.i c.hash_in-h.result (window_of l.words) (window_of c.put_one.new.words) within c.hash_in-h.ensures s.requires.1.0 c.put_one.ensures.is l.invariant.1.0, c.put_one.auto.words ∙ l.invariant.1.1))
 
 pub shape_of-words : goal.shape_of-words
-shape_of-words c = c.loop-i.invariant.1.1.1
+shape_of-words c = c.loop-i.invariant.1.1
 
 pub returns : goal.returns
 returns c =
@@ -59,4 +53,4 @@ returns c =
     let l = c.loop-i in
     let asks = asks_in s.args.hashes.now s.args.heights.now in
     let end : drop l.i asks ≡ [] = drop_all asks l.i (omega (arith, s.requires.1.1.1, c.loop-i-test.false)) in
-    subst (λ (v : Window). Holds v l.words) (putting_done asks s.args.owner s.args.clock (window_of s.args.words.now) (window_of l.words) (subst (λ (r : List Ask). Putting asks s.args.owner s.args.clock (window_of s.args.words.now) r (window_of l.words)) end l.invariant.1.1.0)) (holds_whole l.words l.invariant.1.0)
+    subst (λ (v : Window). Holds v l.words) (putting_done asks s.args.owner s.args.clock (window_of s.args.words.now) (window_of l.words) (subst (λ (r : List Ask). Putting asks s.args.owner s.args.clock (window_of s.args.words.now) r (window_of l.words)) end l.invariant.1.0)) (holds_whole l.words l.invariant.0)

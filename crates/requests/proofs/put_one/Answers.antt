@@ -3,7 +3,7 @@ use mathlib.Core.Path.{sym, subst}
 use Prim.Native.Nat.{ℕ}
 use Rattle.model.specs.Layout.{window_of}
 use Rattle.records.specs.Places.{Finds}
-use Rattle.records.specs.declared.Place.TheVariants.{Free}
+use Rattle.std.specs.Prelude.{Err}
 use Rattle.requests.specs.Puts.{absent_free}
 use Rattle.requests.proofs.put_one.Goals as goal
 
@@ -13,7 +13,7 @@ put_found-requires c =
     let a = s.args in
     let t = s.requires.1 in
     let l = (window_of a.words.now).queue.pending in
-    (s.requires.0, (t, subst (λ (k : ℕ). Finds a.h l (Free k)) (sym c.place_of-at.ensures) (absent_free a.h l c.find-p.result t.rises t.absent c.find-p.ensures)))
+    (s.requires.0, (t, subst (λ (k : ℕ). Finds a.h l (Err k)) (sym c.place_of-at.ensures) (absent_free a.h l c.find-p.result t.rises t.absent c.find-p.ensures)))
 
 pub returns : goal.returns
 returns c = c.put_found.ensures

@@ -1,9 +1,9 @@
 -- `retain::keep_roles` meets its contract. Assumes nothing.
+use Rattle.std.specs.Prelude.{Option, ℕ}
 use mathlib.Core.Path.{sym, ap, ◌∙◌, subst}
 use Prim.Native.Nat.{◌≤◌}
 use Rattle.model.specs.LettingGo.{flagged, cold_kept, peer_kept}
 use Rattle.model.specs.Layout.{window_of, source_word}
-use Rattle.model.specs.declared.Source.{Source}
 use Rattle.states.specs.Fits.{cold_fits}
 use Rattle.retain.specs.Retains.{cold_kept_fits, peer_kept_fits, roles_hold}
 use Rattle.retain.proofs.keep_roles.Goals as goal
@@ -25,12 +25,12 @@ set_cold-requires c =
 pub set_preferred-requires : goal.set_preferred-requires
 set_preferred-requires c =
     let owns = flagged c.args.flags.now in
-    (c.set_cold.ensures.whole, subst (λ (x : Source). source_word x ≤ 256) (sym (c.peer_kept-preferred.ensures ∙ ap (peer_kept owns) c.get_preferred-p.ensures)) (peer_kept_fits owns (window_of c.args.words.now).races.preferred c.requires.1.1.preferred))
+    (c.set_cold.ensures.whole, subst (λ (x : Option ℕ). source_word x ≤ 256) (sym (c.peer_kept-preferred.ensures ∙ ap (peer_kept owns) c.get_preferred-p.ensures)) (peer_kept_fits owns (window_of c.args.words.now).races.preferred c.requires.1.1.preferred))
 
 pub set_attempted-requires : goal.set_attempted-requires
 set_attempted-requires c =
     let owns = flagged c.args.flags.now in
-    (c.set_preferred.ensures.whole, subst (λ (x : Source). source_word x ≤ 256) (sym (c.peer_kept-attempted.ensures ∙ ap (peer_kept owns) c.get_attempted-a.ensures)) (peer_kept_fits owns (window_of c.args.words.now).races.attempted c.requires.1.1.attempted))
+    (c.set_preferred.ensures.whole, subst (λ (x : Option ℕ). source_word x ≤ 256) (sym (c.peer_kept-attempted.ensures ∙ ap (peer_kept owns) c.get_attempted-a.ensures)) (peer_kept_fits owns (window_of c.args.words.now).races.attempted c.requires.1.1.attempted))
 
 pub keep_probe-requires : goal.keep_probe-requires
 keep_probe-requires c = (c.set_attempted.ensures.whole, c.requires.1.0)

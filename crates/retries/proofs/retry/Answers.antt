@@ -44,23 +44,18 @@ module _ (c : At-loop-i) (below : c.loop-i.i < c.args.n) where
 pub loop-i-init : goal.loop-i-init
 loop-i-init c =
     let s = c in
-    let a = s.args in (
-      omega arith,
-      going_start (lent_for a.staged.now a.refused.now a.floor) (window_of a.words.now) (swept_asks (releases_of a.n a.gone.now)) a.batch a.bytes
-          a.hashes.now a.heights.now a.index.now s.requires.0.index,
-    )
-
-pub is_full-requires : goal.is_full-requires
-is_full-requires c = tt
+    let a = s.args in
+    going_start (lent_for a.staged.now a.refused.now a.floor) (window_of a.words.now) (swept_asks (releases_of a.n a.gone.now)) a.batch a.bytes
+    a.hashes.now a.heights.now a.index.now s.requires.0.index
 
 pub shape_of-hashes-then-is_full : goal.shape_of-hashes-then-is_full
-shape_of-hashes-then-is_full c = c.loop-i.invariant.1.long_hashes
+shape_of-hashes-then-is_full c = c.loop-i.invariant.long_hashes
 
 pub shape_of-heights-then-is_full : goal.shape_of-heights-then-is_full
-shape_of-heights-then-is_full c = c.loop-i.invariant.1.long_heights
+shape_of-heights-then-is_full c = c.loop-i.invariant.long_heights
 
 pub shape_of-index-then-is_full : goal.shape_of-index-then-is_full
-shape_of-index-then-is_full c = c.loop-i.invariant.1.long_index
+shape_of-index-then-is_full c = c.loop-i.invariant.long_index
 
 pub returns-then-is_full : goal.returns-then-is_full
 unfolding retries
@@ -70,7 +65,7 @@ returns-then-is_full c =
     let l = d.loop-i in
     let below : l.i < a.n = c.loop-i-test.true in
     going_stop (lent_for a.staged.now a.refused.now a.floor) (window_of a.words.now) (asks (goal.at.returns-then-is_full c).At-loop-i) a.batch a.bytes a.hashes.now a.heights.now a.index.now
-    l.hashes l.heights l.index l.count l.left l.low l.i l.invariant.1 a.mean c.requires.1.1.1 (next_entry (goal.at.returns-then-is_full c).At-loop-i) (next d below) (sym c.is_full.ensures ∙ c.if-is_full.true)
+    l.hashes l.heights l.index l.count l.left l.low l.i l.invariant a.mean c.requires.1.1.1 (next_entry (goal.at.returns-then-is_full c).At-loop-i) (next d below) (sym c.is_full.ensures ∙ c.if-is_full.true)
 
 pub hash_at-h-requires : goal.hash_at-h-requires
 hash_at-h-requires c =
@@ -89,12 +84,6 @@ pub lower_of-low-requires : goal.lower_of-low-requires
 lower_of-low-requires c =
     low (goal.at.lower_of-low-requires c).At-loop-i c.loop-i-test.true c.hash_at-h.result c.height_at-height.result c.hash_at-h.ensures c.height_at-height.ensures
 
-pub overflow_add-i : goal.overflow_add-i
-overflow_add-i c = omega (arith, c.loop-i-test.true)
-
-pub loop-i-smaller-then-names : goal.loop-i-smaller-then-names
-loop-i-smaller-then-names c = omega (arith, c.loop-i-test.true)
-
 pub loop-i-preserved-then-names : goal.loop-i-preserved-then-names
 unfolding is_refused
 loop-i-preserved-then-names c =
@@ -103,21 +92,13 @@ loop-i-preserved-then-names c =
     let l = d.loop-i in
     let h = c.hash_at-h in
     let t = c.height_at-height in
-    let below : l.i < a.n = c.loop-i-test.true in (
-      omega arith,
-      going_refused (lent_for a.staged.now a.refused.now a.floor) (window_of a.words.now) (asks (goal.at.loop-i-preserved-then-names c).At-loop-i) a.batch a.bytes a.hashes.now a.heights.now a.index.now
-          l.hashes l.heights l.index l.count l.left l.low l.i l.invariant.1 a.mean c.requires.1.1.1 (ask h.result t.result) (is d below h.result t.result h.ensures t.ensures)
-          (sym c.is_full.ensures ∙ c.if-is_full.false) c.lower_of-low.result (sym c.names.ensures ∙ c.if-names.true) c.lower_of-low.ensures,
-    )
+    let below : l.i < a.n = c.loop-i-test.true in
+    going_refused (lent_for a.staged.now a.refused.now a.floor) (window_of a.words.now) (asks (goal.at.loop-i-preserved-then-names c).At-loop-i) a.batch a.bytes a.hashes.now a.heights.now a.index.now
+    l.hashes l.heights l.index l.count l.left l.low l.i l.invariant a.mean c.requires.1.1.1 (ask h.result t.result) (is d below h.result t.result h.ensures t.ensures)
+    (sym c.is_full.ensures ∙ c.if-is_full.false) c.lower_of-low.result (sym c.names.ensures ∙ c.if-names.true) c.lower_of-low.ensures
 
 pub is_passed_by-requires : goal.is_passed_by-requires
 is_passed_by-requires c = let p = c.requires.0 in ((p.whole, p.rises), p.staged_index)
-
-pub overflow_add-i-then-is_passed_by : goal.overflow_add-i-then-is_passed_by
-overflow_add-i-then-is_passed_by c = omega (arith, c.loop-i-test.true)
-
-pub loop-i-smaller-then-is_passed_by : goal.loop-i-smaller-then-is_passed_by
-loop-i-smaller-then-is_passed_by c = omega (arith, c.loop-i-test.true)
 
 pub loop-i-preserved-then-is_passed_by : goal.loop-i-preserved-then-is_passed_by
 unfolding is_refused
@@ -127,12 +108,10 @@ loop-i-preserved-then-is_passed_by c =
     let l = d.loop-i in
     let h = c.hash_at-h in
     let t = c.height_at-height in
-    let below : l.i < a.n = c.loop-i-test.true in (
-      omega arith,
-      going_passed (lent_for a.staged.now a.refused.now a.floor) (window_of a.words.now) (asks (goal.at.loop-i-preserved-then-is_passed_by c).At-loop-i) a.batch a.bytes a.hashes.now a.heights.now a.index.now
-          l.hashes l.heights l.index l.count l.left l.low l.i l.invariant.1 a.mean c.requires.1.1.1 (ask h.result t.result) (is d below h.result t.result h.ensures t.ensures)
-          (sym c.is_full.ensures ∙ c.if-is_full.false) (sym c.names.ensures ∙ c.if-names.false) (sym c.is_passed_by.ensures ∙ c.if-is_passed_by.true),
-    )
+    let below : l.i < a.n = c.loop-i-test.true in
+    going_passed (lent_for a.staged.now a.refused.now a.floor) (window_of a.words.now) (asks (goal.at.loop-i-preserved-then-is_passed_by c).At-loop-i) a.batch a.bytes a.hashes.now a.heights.now a.index.now
+    l.hashes l.heights l.index l.count l.left l.low l.i l.invariant a.mean c.requires.1.1.1 (ask h.result t.result) (is d below h.result t.result h.ensures t.ensures)
+    (sym c.is_full.ensures ∙ c.if-is_full.false) (sym c.names.ensures ∙ c.if-names.false) (sym c.is_passed_by.ensures ∙ c.if-is_passed_by.true)
 
 pub put_ask-requires : goal.put_ask-requires
 put_ask-requires c =
@@ -143,10 +122,10 @@ put_ask-requires c =
     let t = c.height_at-height in
     let p = c.requires.0 in
     let more : l.count < a.batch = (room_left a.batch l.count l.left a.mean (sym c.is_full.ensures ∙ c.if-is_full.false)).0 in (
-      l.invariant.1.index,
+      l.invariant.index,
       (
-        omega (arith, more, p.hashes, l.invariant.1.long_hashes),
-        (omega (arith, more, p.heights, l.invariant.1.long_heights), low d c.loop-i-test.true h.result t.result h.ensures t.ensures),
+        omega (arith, more, p.hashes, l.invariant.long_hashes),
+        (omega (arith, more, p.heights, l.invariant.long_heights), low d c.loop-i-test.true h.result t.result h.ensures t.ensures),
       ),
     )
 
@@ -162,12 +141,6 @@ overflow_add-count c =
     let a = c.args in
     omega (arith, (room_left a.batch d.loop-i.count d.loop-i.left a.mean (sym c.is_full.ensures ∙ c.if-is_full.false)).0, c.ranges.batch)
 
-pub overflow_add-i-else-is_passed_by : goal.overflow_add-i-else-is_passed_by
-overflow_add-i-else-is_passed_by c = omega (arith, c.loop-i-test.true, c.ranges.n)
-
-pub loop-i-smaller : goal.loop-i-smaller
-loop-i-smaller c = omega (arith, c.loop-i-test.true)
-
 pub loop-i-preserved : goal.loop-i-preserved
 unfolding is_refused
 loop-i-preserved c =
@@ -177,22 +150,20 @@ loop-i-preserved c =
     let h = c.hash_at-h in
     let t = c.height_at-height in
     let put = c.put_ask in
-    let below : l.i < a.n = c.loop-i-test.true in (
-      omega arith,
-      going_taken (lent_for a.staged.now a.refused.now a.floor) (window_of a.words.now) (asks (goal.at.loop-i-preserved c).At-loop-i) a.batch a.bytes a.hashes.now a.heights.now a.index.now
-          l.hashes l.heights l.index l.count l.left l.low l.i l.invariant.1 a.mean c.requires.1.1.1 (ask h.result t.result) (is d below h.result t.result h.ensures t.ensures)
-          (sym c.is_full.ensures ∙ c.if-is_full.false) (sym c.names.ensures ∙ c.if-names.false) put.new.hashes put.new.heights put.new.index
-          (sym c.is_passed_by.ensures ∙ c.if-is_passed_by.false) put.ensures.0 put.ensures.1.0 put.ensures.1.1 put.auto.hashes put.auto.heights put.auto.index,
-    )
+    let below : l.i < a.n = c.loop-i-test.true in
+    going_taken (lent_for a.staged.now a.refused.now a.floor) (window_of a.words.now) (asks (goal.at.loop-i-preserved c).At-loop-i) a.batch a.bytes a.hashes.now a.heights.now a.index.now
+    l.hashes l.heights l.index l.count l.left l.low l.i l.invariant a.mean c.requires.1.1.1 (ask h.result t.result) (is d below h.result t.result h.ensures t.ensures)
+    (sym c.is_full.ensures ∙ c.if-is_full.false) (sym c.names.ensures ∙ c.if-names.false) put.new.hashes put.new.heights put.new.index
+    (sym c.is_passed_by.ensures ∙ c.if-is_passed_by.false) put.ensures.0 put.ensures.1.0 put.ensures.1.1 put.auto.hashes put.auto.heights put.auto.index
 
 pub shape_of-hashes : goal.shape_of-hashes
-shape_of-hashes c = c.loop-i.invariant.1.long_hashes
+shape_of-hashes c = c.loop-i.invariant.long_hashes
 
 pub shape_of-heights : goal.shape_of-heights
-shape_of-heights c = c.loop-i.invariant.1.long_heights
+shape_of-heights c = c.loop-i.invariant.long_heights
 
 pub shape_of-index : goal.shape_of-index
-shape_of-index c = c.loop-i.invariant.1.long_index
+shape_of-index c = c.loop-i.invariant.long_index
 
 pub returns : goal.returns
 unfolding retries
@@ -202,4 +173,4 @@ returns c =
     let l = d.loop-i in
     let many = asks_count a.gone.now a.keys.now a.n (room (goal.at.returns c).At-loop-i) (asks (goal.at.returns c).At-loop-i) c.requires.1.1.0 in
     going_end (lent_for a.staged.now a.refused.now a.floor) (window_of a.words.now) (asks (goal.at.returns c).At-loop-i) a.batch a.bytes a.hashes.now a.heights.now a.index.now
-    l.hashes l.heights l.index l.count l.left l.low l.i l.invariant.1 (omega (arith, c.loop-i-test.false, many))
+    l.hashes l.heights l.index l.count l.left l.low l.i l.invariant (omega (arith, c.loop-i-test.false, many))

@@ -4,5 +4,5 @@ use Prim.Native.Nat.{ℕ}
 use lib.Dec.{ltb}
 use Rattle.rules.proofs.is_young.Goals as goal
 
-pub returns-in-Probing : goal.returns-in-Probing
-returns-in-Probing c = rw c.in-Probing.is (ap (λ (n : ℕ). ltb n c.args.initial) c.minus.ensures)
+pub returns-in-Some : goal.returns-in-Some
+returns-in-Some c = rw c.in-Some.is (ap (λ (n : ℕ). ltb n c.args.initial) c.minus.ensures)

@@ -1,7 +1,7 @@
 -- `script::chain` meets its contract: at the loop's head i blocks are written. Assumes nothing.
 use mathlib.Core.Path.{◌≡◌, refl, ap, ◌∙◌}
 use mathlib.Core.List.{List}
-use Prim.Native.Nat.{ℕ, suc, ◌+◌, ◌*◌, ◌-◌}
+use Prim.Native.Nat.{ℕ, suc, ◌+◌, ◌*◌}
 use native.Mathlib.Numerals.{add-one}
 use native.Mathlib.Omega.{arith}
 use lib.ListN.{set}
@@ -14,28 +14,10 @@ turn i l e = ap (λ (x : List ℕ). set x (4 * i + 3) i) e
 
 pub loop-i-init : goal.loop-i-init
 unfolding chain
-loop-i-init c = (refl, omega arith)
-
-pub overflow_mul-l : goal.overflow_mul-l
-overflow_mul-l c = omega arith
-
-pub overflow_add-l : goal.overflow_add-l
-overflow_add-l c = omega arith
-
-pub offset_bounds-l-i : goal.offset_bounds-l-i
-offset_bounds-l-i c = omega arith
-
-pub bounds-l-i : goal.bounds-l-i
-bounds-l-i c = omega arith
-
-pub overflow_add-i : goal.overflow_add-i
-overflow_add-i c = omega arith
-
-pub loop-i-smaller : goal.loop-i-smaller
-loop-i-smaller c = omega arith
+loop-i-init c = refl
 
 pub loop-i-preserved : goal.loop-i-preserved
-loop-i-preserved c = let v = c.loop-i in rw add-one (turn v.i v.l v.invariant.0, omega arith)
+loop-i-preserved c = let v = c.loop-i in rw add-one (turn v.i v.l v.invariant)
 
 pub returns : goal.returns
-returns c = let v = c.loop-i in v.invariant.0 ∙ ap chain (omega (arith, v.invariant.1))
+returns c = c.loop-i.invariant ∙ ap chain (omega arith)

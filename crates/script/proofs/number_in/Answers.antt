@@ -1,7 +1,7 @@
 -- `script::number_in` meets its contract: at the loop's head i columns are read. Assumes nothing.
 use mathlib.Core.Path.{◌≡◌, refl, ap, ◌∙◌}
 use mathlib.Core.List.{List}
-use Prim.Native.Nat.{ℕ, suc, ◌+◌, ◌-◌}
+use Prim.Native.Nat.{ℕ, suc, ◌+◌}
 use native.Mathlib.Numerals.{add-one}
 use native.Mathlib.Omega.{arith}
 use lib.ListN.{get_or}
@@ -14,25 +14,13 @@ turn line from i n byte r before e f = f ∙ ap (λ (x : ℕ). with_digit x byte
 
 pub loop-i-init : goal.loop-i-init
 unfolding number_in
-loop-i-init c = (refl, omega arith)
-
-pub overflow_add-from : goal.overflow_add-from
-overflow_add-from c = omega (arith, c.requires)
-
-pub overflow_add-i : goal.overflow_add-i
-overflow_add-i c = omega arith
-
-pub loop-i-smaller : goal.loop-i-smaller
-loop-i-smaller c = omega arith
+loop-i-init c = refl
 
 pub loop-i-preserved : goal.loop-i-preserved
 loop-i-preserved c =
     let v = c.loop-i in
     let a = c.args in
-    rw add-one (turn a.line.now a.from v.i v.n c.byte_at.result c.with_digit-n.result v.invariant.0 c.byte_at.ensures c.with_digit-n.ensures, omega arith)
+    rw add-one (turn a.line.now a.from v.i v.n c.byte_at.result c.with_digit-n.result v.invariant c.byte_at.ensures c.with_digit-n.ensures)
 
 pub returns : goal.returns
-returns c =
-    let v = c.loop-i in
-    let a = c.args in
-    v.invariant.0 ∙ ap (number_in a.line.now a.from) (omega (arith, v.invariant.1))
+returns c = c.loop-i.invariant ∙ ap (number_in c.args.line.now c.args.from) (omega arith)

@@ -1,11 +1,7 @@
 -- `script::number_in` meets its contract: at the loop's head i columns are read. Assumes nothing.
 use mathlib.Core.Path.{◌≡◌}
-use Prim.Native.Nat.{◌-◌, ◌≤◌}
 use Rattle.script.specs.Text.{number_in}
 use Rattle.script.proofs.number_in.Given as goal
 
 abbrev pub invariant-loop-i : goal.invariant-loop-i
-invariant-loop-i l = (l.n ≡ number_in l.line l.from l.i) × (l.i ≤ l.width)
-
-abbrev pub decreases-loop-i : goal.decreases-loop-i
-decreases-loop-i l = l.width - l.i
+invariant-loop-i l = l.n ≡ number_in l.line l.from l.i

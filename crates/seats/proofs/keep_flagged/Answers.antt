@@ -6,7 +6,7 @@ use Prim.Native.Nat.{ℕ, zero, suc, ◌+◌, ◌-◌, ◌<◌}
 use native.Mathlib.Nat.{le_of_suc-le-suc, not-suc-le-zero}
 use native.Mathlib.Omega.{arith}
 use native.Mathlib.Numerals.{add-one}
-use lib.ListN.{length, get_or, set, length-set}
+use lib.ListN.{length, get_or, set}
 use lib.Dec.{eqb}
 use Rattle.model.specs.Hash.{same}
 use Rattle.model.specs.Seats.{keep_seats}
@@ -35,49 +35,14 @@ turn fs l col i v h is e =
     ap (λ (x : List ℕ). set x i v) is
     ∙ over_step (T fs l) l i v 0 (omega arith) h (e ∙ ap (λ (n : ℕ). cond (not (eqb (get_or fs i 0) 0)) n 0) read ∙ sym (kept_at (flagged fs) 0 i i l (omega arith) h))
 
-pub loop-i-init : goal.loop-i-init
-loop-i-init c = (omega arith, (refl, refl))
-
-pub offset_bounds-flags-i : goal.offset_bounds-flags-i
-offset_bounds-flags-i c = omega arith
-
-pub bounds-flags-i : goal.bounds-flags-i
-bounds-flags-i c = omega arith
-
-pub offset_bounds-col-i : goal.offset_bounds-col-i
-offset_bounds-col-i c = omega arith
-
-pub bounds-col-i : goal.bounds-col-i
-bounds-col-i c = omega arith
-
-pub offset_bounds-col-i-in-loop-i : goal.offset_bounds-col-i-in-loop-i
-offset_bounds-col-i-in-loop-i c = omega arith
-
-pub bounds-col-i-in-loop-i : goal.bounds-col-i-in-loop-i
-bounds-col-i-in-loop-i c = omega arith
-
-pub overflow_add-i : goal.overflow_add-i
-overflow_add-i c = omega arith
-
-pub loop-i-smaller : goal.loop-i-smaller
-loop-i-smaller c = omega arith
-
 pub loop-i-preserved : goal.loop-i-preserved
 loop-i-preserved c =
     let l = c.loop-i in
-    let a = c.args in (
-      omega arith,
-      (
-        simp length-set l.invariant.1.0,
-        turn a.flags.now a.col.now l.col l.i c.kept_word-w.result (omega arith) l.invariant.1.1 c.kept_word-w.ensures ∙ rw add-one,
-      ),
-    )
-
-pub shape_of-col : goal.shape_of-col
-shape_of-col c = c.loop-i.invariant.1.0
+    let a = c.args in
+    turn a.flags.now a.col.now l.col l.i c.kept_word.result (omega arith) l.invariant c.kept_word.ensures ∙ rw add-one
 
 pub returns : goal.returns
 returns c =
     let l = c.loop-i in
     let a = c.args in
-    l.invariant.1.1 ∙ over_done (T a.flags.now a.col.now) a.col.now l.i (omega (arith, length_kept (flagged a.flags.now) 0 a.col.now)) (omega arith)
+    l.invariant ∙ over_done (T a.flags.now a.col.now) a.col.now l.i (omega (arith, length_kept (flagged a.flags.now) 0 a.col.now)) (omega arith)

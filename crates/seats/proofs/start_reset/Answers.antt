@@ -20,10 +20,10 @@ module _ (now t u start : ℕ) where
   newer h n = rw (le-ltb (suc t) (suc u) (omega arith), ne_eqb (suc t) (suc u) (λ q. n (omega (arith, q))))
 
 pub returns-then-removed-u : goal.returns-then-removed-u
-returns-then-removed-u c = rw c.in-Since.is (add-one _ ∙ sym (older _ _ _ c.args.start c.if-removed-u.true))
+returns-then-removed-u c = rw c.in-Some.is (add-one _ ∙ sym (older _ _ _ c.args.start c.if-removed-u.true))
 
 pub returns-then-removed-u-2 : goal.returns-then-removed-u-2
-returns-then-removed-u-2 c = rw c.in-Since.is (c.greater.ensures ∙ ap (greater c.args.start) (add-one _) ∙ sym (equal c.args.clock _ _ c.args.start c.if-removed-u-2.true))
+returns-then-removed-u-2 c = rw c.in-Some.is (c.greater.ensures ∙ ap (greater c.args.start) (add-one _) ∙ sym (equal c.args.clock _ _ c.args.start c.if-removed-u-2.true))
 
 pub returns-else-removed-u-2 : goal.returns-else-removed-u-2
-returns-else-removed-u-2 c = rw c.in-Since.is (sym (newer c.args.clock _ _ c.args.start c.if-removed-u.false c.if-removed-u-2.false))
+returns-else-removed-u-2 c = rw c.in-Some.is (sym (newer c.args.clock _ _ c.args.start c.if-removed-u.false c.if-removed-u-2.false))

@@ -1,52 +1,30 @@
--- `state_races::is_listed` meets its contract: none of those before i is the hash. Assumes nothing.
-use mathlib.Core.Path.{◌≡◌, refl, sym, ap, ◌∙◌}
-use mathlib.Core.Bool.{true, false}
-use Prim.Native.Nat.{ℕ, ◌-◌}
-use native.Mathlib.Omega.{arith}
-use native.Mathlib.Numerals.{add-one}
-use lib.ListN.{length, drop}
+-- `state_races::is_listed` meets its contract: a test of each number below n is a test of each hash. Assumes nothing.
+use Rattle.std.proofs.Common.{◌≡◌, ℕ, suc, ◌+◌, ◌*◌, ◌<◌, List, [], ◌∷◌, length, get_or, refl, sym, ap, ◌∙◌, rules, arith}
+use mathlib.Core.Bool.{Bool, ◌||◌}
+use borrow.Author.Tests.{tests}
+use Rattle.std.proofs.lemmas.Iterator.{YieldsList-from_range}
+use Rattle.std.proofs.lemmas.Iterator.Search.{any_from_yields_List}
+use Rattle.std.specs.List.{list_any, range_with_len}
 use Rattle.model.specs.Lists.{any}
 use Rattle.model.specs.Hash.{same, hash}
+use Rattle.model.specs.Layout.{decode, hash_at}
 use Rattle.model.specs.declared.Hash.{Hash}
-use Rattle.state_races.specs.Hedges.{any_turn, any_end}
 use Rattle.state_races.proofs.is_listed.Goals as goal
 
-pub loop-i-init : goal.loop-i-init
-loop-i-init c = (omega arith, λ hs l. refl)
-
-pub overflow_mul-a : goal.overflow_mul-a
-overflow_mul-a c = omega arith
-
-pub overflow_add-a : goal.overflow_add-a
-overflow_add-a c = omega arith
-
-pub hash_of-x-requires : goal.hash_of-x-requires
-hash_of-x-requires c = (c.requires.0, omega arith)
-
-pub returns-then-equal : goal.returns-then-equal
-returns-then-equal c = λ hs l.
-    let h = c.args.h in
-    let at = c in
-    sym (at.loop-i.invariant.1 hs l ∙ any_turn (λ x. same x h) hs at.loop-i.i (hash 0 0 0 0) true (omega (arith, l.many))
-    (ap (λ (x : Hash). same x h) (sym (c.hash_of-x.ensures ∙ l.each at.loop-i.i (omega (arith, l.many)))) ∙ sym c.equal.ensures ∙ c.if-equal.true))
-
-pub overflow_add-i : goal.overflow_add-i
-overflow_add-i c = omega arith
-
-pub loop-i-smaller : goal.loop-i-smaller
-loop-i-smaller c = omega arith
-
-pub loop-i-preserved : goal.loop-i-preserved
-loop-i-preserved c =
-    let h = c.args.h in
-    let at = c in (
-      omega arith,
-      λ hs l. at.loop-i.invariant.1 hs l ∙ rw add-one (any_turn (λ x. same x h) hs at.loop-i.i (hash 0 0 0 0) false (omega (arith, l.many))
-          (ap (λ (x : Hash). same x h) (sym (c.hash_of-x.ensures ∙ l.each at.loop-i.i (omega (arith, l.many)))) ∙ sym c.equal.ensures ∙ c.if-equal.false)),
-    )
+-- the numbers from a on, each the place of a hash
+each : (p : Hash → Bool) (f : ℕ → Hash) (a : ℕ) (hs : List Hash) → ((i : ℕ) → i < length hs → f (a + i) ≡ get_or hs i (hash 0 0 0 0))
+    → list_any (λ i. p (f i)) (range_with_len a (length hs)) ≡ any p hs
+unfolding any
+each p f a [] e = refl
+each p f a (x ∷ hs) e =
+    let first : f a ≡ x = ap f (omega arith) ∙ e 0 (omega arith) in
+    (λ j. p (first j) || list_any (λ i. p (f i)) (range_with_len (a + 1) (length hs)))
+    ∙ ap (λ (b : Bool). p x || b) (each p f (a + 1) hs (λ i b. ap f (omega arith) ∙ e (suc i) (omega arith)))
 
 pub returns : goal.returns
 returns c = λ hs l.
-    let h = c.args.h in
-    let e : c.loop-i.i ≡ length hs = omega (arith, l.many) in
-    sym (c.loop-i.invariant.1 hs l ∙ ap (λ (i : ℕ). any (λ x. same x h) (drop i hs)) e ∙ any_end (λ x. same x h) hs)
+    let a = c.args in
+    let f : ℕ → Hash = λ i. hash_at (a.k + 4 * i) (decode a.words.now) in
+    any_from_yields_List (λ i. same (f i) a.h) _ _ _ c.any.ensures.ran (YieldsList-from_range 0 a.n a.n refl (omega arith)) (λ x b q k. search (rules, tests))
+    ∙ ap (λ (m : ℕ). list_any (λ i. same (f i) a.h) (range_with_len 0 m)) l.many
+    ∙ each (λ x. same x a.h) f 0 hs (λ i b. ap f (omega arith) ∙ l.each i b)

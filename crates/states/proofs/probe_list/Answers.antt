@@ -6,10 +6,10 @@ use Rattle.states.specs.Fits.{probe_fits}
 use Rattle.states.proofs.probe_list.Goals as goal
 
 pub overflow_add-result : goal.overflow_add-result
-overflow_add-result c = omega (arith, subst probe_fits c.in-Probing.is c.requires)
+overflow_add-result c = omega (arith, subst probe_fits c.in-Some.is c.requires)
 
-pub returns-in-NoProbe : goal.returns-in-NoProbe
-returns-in-NoProbe c = rw c.in-NoProbe.is
+pub returns-in-None : goal.returns-in-None
+returns-in-None c = rw c.in-None.is
 
-pub returns-in-Probing : goal.returns-in-Probing
-returns-in-Probing c = rw (c.in-Probing.is, add-one)
+pub returns-in-Some : goal.returns-in-Some
+returns-in-Some c = rw (c.in-Some.is, add-one)

@@ -6,7 +6,7 @@ use Rattle.states.specs.Fits.{stall_fits}
 use Rattle.states.proofs.stall_list.Goals as goal
 
 pub overflow_add-result : goal.overflow_add-result
-overflow_add-result c = omega (arith, subst stall_fits c.in-Episode.is c.requires)
+overflow_add-result c = omega (arith, subst stall_fits c.in-Some.is c.requires)
 
-pub returns-in-Episode : goal.returns-in-Episode
-returns-in-Episode c = rw (c.in-Episode.is, add-one)
+pub returns-in-Some : goal.returns-in-Some
+returns-in-Some c = rw (c.in-Some.is, add-one)

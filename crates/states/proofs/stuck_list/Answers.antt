@@ -6,7 +6,7 @@ use Rattle.states.specs.Fits.{stuck_fits}
 use Rattle.states.proofs.stuck_list.Goals as goal
 
 pub overflow_add-result : goal.overflow_add-result
-overflow_add-result c = omega (arith, subst stuck_fits c.in-StuckAt.is c.requires)
+overflow_add-result c = omega (arith, subst stuck_fits c.in-Some.is c.requires)
 
-pub returns-in-StuckAt : goal.returns-in-StuckAt
-returns-in-StuckAt c = rw (c.in-StuckAt.is, add-one)
+pub returns-in-Some : goal.returns-in-Some
+returns-in-Some c = rw (c.in-Some.is, add-one)

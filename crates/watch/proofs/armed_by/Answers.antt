@@ -2,4 +2,4 @@
 use Rattle.watch.proofs.armed_by.Goals as goal
 
 pub returns : goal.returns
-returns c = rw c.in-At.is
+returns c = rw c.in-Some.is

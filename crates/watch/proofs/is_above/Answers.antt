@@ -2,4 +2,4 @@
 use Rattle.watch.proofs.is_above.Goals as goal
 
 pub returns : goal.returns
-returns c = rw c.in-Known.is
+returns c = rw c.in-Some.is

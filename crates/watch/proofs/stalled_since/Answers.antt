@@ -3,7 +3,7 @@ use mathlib.Core.Path.{sym, ◌∙◌}
 use Rattle.watch.proofs.stalled_since.Goals as goal
 
 pub returns-then-same_both : goal.returns-then-same_both
-returns-then-same_both c = rw (c.in-Episode.is, sym c.same_both.ensures ∙ c.if-same_both.true)
+returns-then-same_both c = rw (c.in-Some.is, sym c.same_both.ensures ∙ c.if-same_both.true)
 
 pub returns : goal.returns
-returns c = rw (c.in-Episode.is, sym c.same_both.ensures ∙ c.if-same_both.false)
+returns c = rw (c.in-Some.is, sym c.same_both.ensures ∙ c.if-same_both.false)

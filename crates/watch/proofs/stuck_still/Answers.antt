@@ -6,7 +6,7 @@ pub returns-in_default : goal.returns-in_default
 returns-in_default c = rw c.in_default.is c.stuck_anew.ensures
 
 pub returns-then-same_both : goal.returns-then-same_both
-returns-then-same_both c = rw (c.in-StuckAt.is, sym c.same_both.ensures ∙ c.if-same_both.true)
+returns-then-same_both c = rw (c.in-Some.is, sym c.same_both.ensures ∙ c.if-same_both.true)
 
 pub returns : goal.returns
-returns c = rw (c.in-StuckAt.is, sym c.same_both.ensures ∙ c.if-same_both.false) c.stuck_anew-2.ensures
+returns c = rw (c.in-Some.is, sym c.same_both.ensures ∙ c.if-same_both.false) c.stuck_anew-2.ensures

@@ -2,4 +2,4 @@
 use Rattle.watch.proofs.timeout_answer.Goals as goal
 
 pub returns : goal.returns
-returns c = rw c.in-From.is
+returns c = rw c.in-Some.is

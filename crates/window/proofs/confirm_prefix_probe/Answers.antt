@@ -2,24 +2,22 @@
 use mathlib.Core.Path.{refl}
 use Rattle.model.specs.Numbers.{read_clock}
 use Rattle.model.specs.Refusals.{at}
-use Rattle.refusals.specs.Outcomes.{refused_so, admitted}
+use Rattle.refusals.specs.Outcomes.{admitted}
+use Rattle.refusals.specs.Passed.{call_passed}
 use Rattle.window.specs.Plain.{both_ok, probe_peers, probe_so}
 use Rattle.window.proofs.confirm_prefix_probe.Goals as goal
 
-pub shape_of-words-then-n-ne0 : goal.shape_of-words-then-n-ne0
-shape_of-words-then-n-ne0 c = refl
-
-pub returns-then-n-ne0 : goal.returns-then-n-ne0
-returns-then-n-ne0 c = refused_so _ _ _ (both_ok (at _) _ _ _ c.alternates_ok-seats.ensures _ _ c.refused_by_at-n.ensures) c.if-n-ne0.true
+pub returns-in_err-refused_by_at : goal.returns-in_err-refused_by_at
+returns-in_err-refused_by_at c = call_passed _ _ c.from_residual.ensures.1 _ _ _ (both_ok (at _) _ _ _ c.alternates_ok-seats.ensures _ _ c.in_err-refused_by_at.ensures)
 
 pub confirm_prefix_probe-requires : goal.confirm_prefix_probe-requires
 unfolding read_clock
 confirm_prefix_probe-requires c =
-    let g = admitted _ _ 0 _ c.refused_by_at-n.ensures c.if-n-ne0.false in
+    let g = admitted _ _ 0 _ c.in_ok-refused_by_at.ensures refl in
     (g.whole, (g.sound_at, probe_peers _ _ _ c.alternates_ok-seats.ensures g.passes.peers))
 
 pub set_clock-requires : goal.set_clock-requires
 set_clock-requires c = c.confirm_prefix_probe.ensures.whole
 
 pub returns : goal.returns
-returns c = probe_so _ _ _ _ _ _ _ _ (both_ok (at _) _ _ _ c.alternates_ok-seats.ensures _ _ c.refused_by_at-n.ensures) c.if-n-ne0.false c.confirm_prefix_probe.ensures c.set_clock.ensures
+returns c = probe_so _ _ _ _ _ _ _ _ (both_ok (at _) _ _ _ c.alternates_ok-seats.ensures _ _ c.in_ok-refused_by_at.ensures) refl c.confirm_prefix_probe.ensures c.set_clock.ensures

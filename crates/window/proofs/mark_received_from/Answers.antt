@@ -3,7 +3,7 @@ use Rattle.letting_go.specs.Letting.{lets_fewer, lets_performs}
 use Rattle.window.proofs.mark_received_from.Goals as goal
 
 pub write_report-m-requires : goal.write_report-m-requires
-write_report-m-requires c = lets_fewer _ _ _ _ _ _ _ c.mark_received_from-r.ensures _ c.places_of_received-n.ensures c.mark_received_from-r.auto.gone
+write_report-m-requires c = lets_fewer _ _ _ _ _ _ _ c.mark_received_from-r.ensures _ c.places_of-n.ensures c.mark_received_from-r.auto.gone
 
 pub returns : goal.returns
-returns c = lets_performs _ _ _ _ _ _ _ c.mark_received_from-r.ensures _ c.places_of_received-n.ensures _ c.write_report-m.ensures.1
+returns c = lets_performs _ _ _ _ _ _ _ c.mark_received_from-r.ensures _ c.places_of-n.ensures _ c.write_report-m.ensures.1

@@ -1,21 +1,19 @@
 -- `window::observe_blocked` meets its contract. Assumes nothing.
 use mathlib.Core.Path.{refl}
 use Rattle.model.specs.Numbers.{read_clock}
-use Rattle.refusals.specs.Outcomes.{refused_so, admitted}
+use Rattle.refusals.specs.Outcomes.{admitted}
+use Rattle.refusals.specs.Passed.{call_passed}
 use Rattle.observation.specs.Look.{look}
 use Rattle.window.specs.Plain.{look_so}
 use Rattle.window.proofs.observe_blocked.Goals as goal
 
-pub shape_of-words-then-k-ne0 : goal.shape_of-words-then-k-ne0
-shape_of-words-then-k-ne0 c = refl
-
-pub returns-then-k-ne0 : goal.returns-then-k-ne0
-returns-then-k-ne0 c = refused_so _ _ _ c.refused_by_at-k.ensures c.if-k-ne0.true
+pub returns-in_err-refused_by_at : goal.returns-in_err-refused_by_at
+returns-in_err-refused_by_at c = call_passed _ _ c.from_residual.ensures.1 _ _ _ c.in_err-refused_by_at.ensures
 
 pub observe_blocked-r-requires : goal.observe_blocked-r-requires
 unfolding read_clock
 observe_blocked-r-requires c =
-    let g = admitted _ _ 0 _ c.refused_by_at-k.ensures c.if-k-ne0.false in
+    let g = admitted _ _ 0 _ c.in_ok-refused_by_at.ensures refl in
     (g.whole, g.sound_at, c.widened-at.ensures.1)
 
 pub set_clock-requires : goal.set_clock-requires
@@ -24,4 +22,4 @@ set_clock-requires c = c.observe_blocked-r.ensures.0.whole
 pub returns : goal.returns
 returns c =
     let a = c.args in
-    look_so _ _ _ (λ i. look (c.widened-at.ensures.0 i) a.frontier a.busy a.staged (c.widened-top.ensures.0 i)) _ _ _ _ c.refused_by_at-k.ensures c.if-k-ne0.false _ c.observe_blocked-r.ensures c.set_clock.ensures
+    look_so _ _ _ (λ i. look (c.widened-at.ensures.0 i) a.frontier a.busy a.staged (c.widened-top.ensures.0 i)) _ _ _ _ c.in_ok-refused_by_at.ensures refl _ c.observe_blocked-r.ensures c.set_clock.ensures

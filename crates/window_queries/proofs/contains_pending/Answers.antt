@@ -1,20 +1,18 @@
 -- `window_queries::contains_pending` meets its contract. Assumes nothing.
-use mathlib.Core.Path.{sym, ap, ◌∙◌}
+use mathlib.Core.Path.{refl, ap}
 use Rattle.laws.specs.Whole.{sound_rises}
-use Rattle.refusals.specs.Outcomes.{query_refused, query_answered, admitted}
+use Rattle.refusals.specs.Outcomes.{admitted}
+use Rattle.refusals.specs.Passed.{query_passed, query_told}
 use Rattle.window_queries.specs.Asks.{truth}
 use Rattle.window_queries.proofs.contains_pending.Goals as goal
 
-pub returns-then-n-ne0 : goal.returns-then-n-ne0
-returns-then-n-ne0 c = query_refused _ _ _ c.refused_by-n.ensures c.if-n-ne0.true
+pub returns-in_err-refused_by : goal.returns-in_err-refused_by
+returns-in_err-refused_by c = query_passed _ _ c.from_residual.ensures.1 _ _ _ c.in_err-refused_by.ensures
 
 pub contains_pending-requires : goal.contains_pending-requires
 contains_pending-requires c =
-    let g = admitted _ _ 0 _ c.refused_by-n.ensures c.if-n-ne0.false in
+    let g = admitted _ _ 0 0 c.in_ok-refused_by.ensures refl in
     (g.whole, sound_rises _ _ g.sound)
 
-pub returns-then-contains_pending : goal.returns-then-contains_pending
-returns-then-contains_pending c = query_answered _ _ _ _ c.refused_by-n.ensures c.if-n-ne0.false (ap truth (sym c.if-contains_pending.true ∙ c.contains_pending.ensures))
-
 pub returns : goal.returns
-returns c = query_answered _ _ _ _ c.refused_by-n.ensures c.if-n-ne0.false (ap truth (sym c.if-contains_pending.false ∙ c.contains_pending.ensures))
+returns c = query_told _ _ _ c.in_ok-refused_by.ensures (ap truth c.contains_pending.ensures)

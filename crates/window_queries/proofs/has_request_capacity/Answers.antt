@@ -1,17 +1,15 @@
 -- `window_queries::has_request_capacity` meets its contract. Assumes nothing.
-use mathlib.Core.Path.{sym, ap, ◌∙◌}
-use Rattle.refusals.specs.Outcomes.{query_refused, query_answered, admitted}
+use mathlib.Core.Path.{refl, ap}
+use Rattle.refusals.specs.Outcomes.{admitted}
+use Rattle.refusals.specs.Passed.{query_passed, query_told}
 use Rattle.window_queries.specs.Asks.{truth}
 use Rattle.window_queries.proofs.has_request_capacity.Goals as goal
 
-pub returns-then-n-ne0 : goal.returns-then-n-ne0
-returns-then-n-ne0 c = query_refused _ _ _ c.refused_by-n.ensures c.if-n-ne0.true
+pub returns-in_err-refused_by : goal.returns-in_err-refused_by
+returns-in_err-refused_by c = query_passed _ _ c.from_residual.ensures.1 _ _ _ c.in_err-refused_by.ensures
 
 pub has_request_capacity-requires : goal.has_request_capacity-requires
-has_request_capacity-requires c = (admitted _ _ 0 _ c.refused_by-n.ensures c.if-n-ne0.false).whole
-
-pub returns-then-has_request_capacity : goal.returns-then-has_request_capacity
-returns-then-has_request_capacity c = query_answered _ _ _ _ c.refused_by-n.ensures c.if-n-ne0.false (ap truth (sym c.if-has_request_capacity.true ∙ c.has_request_capacity.ensures))
+has_request_capacity-requires c = (admitted _ _ 0 0 c.in_ok-refused_by.ensures refl).whole
 
 pub returns : goal.returns
-returns c = query_answered _ _ _ _ c.refused_by-n.ensures c.if-n-ne0.false (ap truth (sym c.if-has_request_capacity.false ∙ c.has_request_capacity.ensures))
+returns c = query_told _ _ _ c.in_ok-refused_by.ensures (ap truth c.has_request_capacity.ensures)

@@ -1,17 +1,15 @@
 -- `window_queries::hedge_offered` meets its contract. Assumes nothing.
-use mathlib.Core.Path.{sym, ap, ◌∙◌}
-use Rattle.refusals.specs.Outcomes.{query_refused, query_answered, admitted}
+use mathlib.Core.Path.{refl, ap}
+use Rattle.refusals.specs.Outcomes.{admitted}
+use Rattle.refusals.specs.Passed.{query_passed, query_told}
 use Rattle.window_queries.specs.Asks.{truth}
 use Rattle.window_queries.proofs.hedge_offered.Goals as goal
 
-pub returns-then-n-ne0 : goal.returns-then-n-ne0
-returns-then-n-ne0 c = query_refused _ _ _ c.refused_by-n.ensures c.if-n-ne0.true
+pub returns-in_err-refused_by : goal.returns-in_err-refused_by
+returns-in_err-refused_by c = query_passed _ _ c.from_residual.ensures.1 _ _ _ c.in_err-refused_by.ensures
 
 pub hedge_offered-requires : goal.hedge_offered-requires
-hedge_offered-requires c = (admitted _ _ 0 _ c.refused_by-n.ensures c.if-n-ne0.false).whole
-
-pub returns-then-hedge_offered : goal.returns-then-hedge_offered
-returns-then-hedge_offered c = query_answered _ _ _ _ c.refused_by-n.ensures c.if-n-ne0.false (ap truth (sym c.if-hedge_offered.true ∙ c.hedge_offered.ensures))
+hedge_offered-requires c = (admitted _ _ 0 0 c.in_ok-refused_by.ensures refl).whole
 
 pub returns : goal.returns
-returns c = query_answered _ _ _ _ c.refused_by-n.ensures c.if-n-ne0.false (ap truth (sym c.if-hedge_offered.false ∙ c.hedge_offered.ensures))
+returns c = query_told _ _ _ c.in_ok-refused_by.ensures (ap truth c.hedge_offered.ensures)

@@ -1,14 +1,15 @@
 -- `window_queries::pending_count_for` meets its contract. Assumes nothing.
-use mathlib.Core.Path.{ap}
-use Rattle.refusals.specs.Outcomes.{query_refused, query_answered, admitted}
+use mathlib.Core.Path.{refl, ap}
+use Rattle.refusals.specs.Outcomes.{admitted}
+use Rattle.refusals.specs.Passed.{query_passed, query_told}
 use Rattle.window_queries.specs.Asks.{number}
 use Rattle.window_queries.proofs.pending_count_for.Goals as goal
 
-pub returns-then-n-ne0 : goal.returns-then-n-ne0
-returns-then-n-ne0 c = query_refused _ _ _ c.refused_by-n.ensures c.if-n-ne0.true
+pub returns-in_err-refused_by : goal.returns-in_err-refused_by
+returns-in_err-refused_by c = query_passed _ _ c.from_residual.ensures.1 _ _ _ c.in_err-refused_by.ensures
 
-pub pending_count_for-x-requires : goal.pending_count_for-x-requires
-pending_count_for-x-requires c = (admitted _ _ 0 _ c.refused_by-n.ensures c.if-n-ne0.false).whole
+pub pending_count_for-requires : goal.pending_count_for-requires
+pending_count_for-requires c = (admitted _ _ 0 0 c.in_ok-refused_by.ensures refl).whole
 
 pub returns : goal.returns
-returns c = query_answered _ _ _ _ c.refused_by-n.ensures c.if-n-ne0.false (ap number c.pending_count_for-x.ensures)
+returns c = query_told _ _ _ c.in_ok-refused_by.ensures (ap number c.pending_count_for.ensures)

@@ -1,16 +1,18 @@
 -- `window_queries::pending_high_water` meets its contract. Assumes nothing.
-use Rattle.refusals.specs.Outcomes.{query_refused, query_answered, admitted}
+use mathlib.Core.Path.{refl}
+use Rattle.refusals.specs.Outcomes.{admitted}
+use Rattle.refusals.specs.Passed.{query_passed, query_told}
 use Rattle.window_queries.specs.Asks.{pair}
 use Rattle.window_queries.proofs.pending_high_water.Goals as goal
 
-pub returns-then-n-ne0 : goal.returns-then-n-ne0
-returns-then-n-ne0 c = query_refused _ _ _ c.refused_by-n.ensures c.if-n-ne0.true
+pub returns-in_err-refused_by : goal.returns-in_err-refused_by
+returns-in_err-refused_by c = query_passed _ _ c.from_residual.ensures.1 _ _ _ c.in_err-refused_by.ensures
 
 pub get_high_blocks-x-requires : goal.get_high_blocks-x-requires
-get_high_blocks-x-requires c = (admitted _ _ 0 _ c.refused_by-n.ensures c.if-n-ne0.false).whole.long
+get_high_blocks-x-requires c = (admitted _ _ 0 0 c.in_ok-refused_by.ensures refl).whole.long
 
 pub get_high_bytes-y-requires : goal.get_high_bytes-y-requires
-get_high_bytes-y-requires c = (admitted _ _ 0 _ c.refused_by-n.ensures c.if-n-ne0.false).whole.long
+get_high_bytes-y-requires c = (admitted _ _ 0 0 c.in_ok-refused_by.ensures refl).whole.long
 
 pub returns : goal.returns
-returns c = query_answered _ _ _ _ c.refused_by-n.ensures c.if-n-ne0.false (λ i. pair (c.get_high_blocks-x.ensures i) (c.get_high_bytes-y.ensures i))
+returns c = query_told _ _ _ c.in_ok-refused_by.ensures (λ i. pair (c.get_high_blocks-x.ensures i) (c.get_high_bytes-y.ensures i))

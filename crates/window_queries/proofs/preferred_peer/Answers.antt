@@ -1,16 +1,17 @@
 -- `window_queries::preferred_peer` meets its contract. Assumes nothing.
-use mathlib.Core.Path.{ap, ◌∙◌}
+use Rattle.std.specs.Prelude.{Option, ℕ}
+use mathlib.Core.Path.{refl, ap}
 use Rattle.model.specs.Queries.{source_values}
 use Rattle.model.specs.Perform.{says}
-use Rattle.model.specs.declared.Source.{Source}
-use Rattle.refusals.specs.Outcomes.{query_refused, query_answered, admitted}
+use Rattle.refusals.specs.Outcomes.{admitted}
+use Rattle.refusals.specs.Passed.{query_passed, query_told}
 use Rattle.window_queries.proofs.preferred_peer.Goals as goal
 
-pub returns-then-n-ne0 : goal.returns-then-n-ne0
-returns-then-n-ne0 c = query_refused _ _ _ c.refused_by-n.ensures c.if-n-ne0.true
+pub returns-in_err-refused_by : goal.returns-in_err-refused_by
+returns-in_err-refused_by c = query_passed _ _ c.from_residual.ensures.1 _ _ _ c.in_err-refused_by.ensures
 
-pub get_preferred-s-requires : goal.get_preferred-s-requires
-get_preferred-s-requires c = (admitted _ _ 0 _ c.refused_by-n.ensures c.if-n-ne0.false).whole.long
+pub get_preferred-requires : goal.get_preferred-requires
+get_preferred-requires c = (admitted _ _ 0 0 c.in_ok-refused_by.ensures refl).whole.long
 
 pub returns : goal.returns
-returns c = query_answered _ _ _ _ c.refused_by-n.ensures c.if-n-ne0.false (c.perhaps_seat.ensures ∙ ap (λ (s : Source). says 0 (source_values s)) c.get_preferred-s.ensures)
+returns c = query_told _ _ _ c.in_ok-refused_by.ensures (ap (λ (s : Option ℕ). says 0 (source_values s)) c.get_preferred.ensures)

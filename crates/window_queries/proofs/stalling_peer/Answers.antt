@@ -1,15 +1,17 @@
 -- `window_queries::stalling_peer` meets its contract. Assumes nothing.
-use Rattle.refusals.specs.Outcomes.{query_refused, query_answered, admitted}
+use mathlib.Core.Path.{refl}
+use Rattle.refusals.specs.Outcomes.{admitted}
+use Rattle.refusals.specs.Passed.{query_passed, query_told}
 use Rattle.window_queries.specs.Seated.{staller_seated}
 use Rattle.window_queries.proofs.stalling_peer.Goals as goal
 
-pub returns-then-n-ne0 : goal.returns-then-n-ne0
-returns-then-n-ne0 c = query_refused _ _ _ c.refused_by-n.ensures c.if-n-ne0.true
+pub returns-in_err-refused_by : goal.returns-in_err-refused_by
+returns-in_err-refused_by c = query_passed _ _ c.from_residual.ensures.1 _ _ _ c.in_err-refused_by.ensures
 
 pub stalling_peer-requires : goal.stalling_peer-requires
 stalling_peer-requires c =
-    let g = admitted _ _ 0 _ c.refused_by-n.ensures c.if-n-ne0.false in
+    let g = admitted _ _ 0 0 c.in_ok-refused_by.ensures refl in
     (g.whole.long, staller_seated g.sound)
 
 pub returns : goal.returns
-returns c = query_answered _ _ _ _ c.refused_by-n.ensures c.if-n-ne0.false c.stalling_peer.ensures
+returns c = query_told _ _ _ c.in_ok-refused_by.ensures c.stalling_peer.ensures

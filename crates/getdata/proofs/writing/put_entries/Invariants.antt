@@ -2,15 +2,12 @@
 -- Assumes nothing.
 use mathlib.Core.Path.{◌≡◌}
 use mathlib.Core.List.{◌++◌}
-use Prim.Native.Nat.{◌-◌, ◌*◌, ◌/◌, ◌≤◌}
-use lib.ListN.{length, take, drop}
+use Prim.Native.Nat.{◌*◌}
+use lib.ListN.{take, drop}
 use Rattle.model.specs.Hash.{hashes_in}
 use Rattle.model.specs.Getdata.{entries_bytes}
 use Rattle.getdata.proofs.writing.put_entries.Given as goal
 
 abbrev pub invariant-loop-i : goal.invariant-loop-i
 invariant-loop-i l =
-    (l.i ≤ length l.hashes / 4) × ((length l.out ≡ length l.hashes / 4 * 36) × (entries_bytes (hashes_in l.hashes) ≡ take (36 * l.i) l.out ++ entries_bytes (hashes_in (drop (4 * l.i) l.hashes))))
-
-abbrev pub decreases-loop-i : goal.decreases-loop-i
-decreases-loop-i l = length l.hashes / 4 - l.i
+    entries_bytes (hashes_in l.hashes) ≡ take (36 * l.i) l.out ++ entries_bytes (hashes_in (drop (4 * l.i) l.hashes))

@@ -1,38 +1,46 @@
 -- `recorded::compare::same_part` meets its contract. Assumes nothing.
-use Rattle.std.proofs.Common.{◌||◌}
-use Rattle.std.proofs.Common.{◌≡◌, ℕ, suc, ◌+◌, ◌-◌, ◌%◌, ◌^◌, Bool, ◌&&◌, eqb, leb, List, length, get_or, refl, ap, ◌∙◌, arith}
+use Rattle.std.proofs.Common.{◌≡◌, ℕ, zero, suc, ◌+◌, ◌%◌, ◌^◌, ◌≤◌, Bool, true, false, ◌&&◌, ◌||◌, eqb, leb, List, [], ◌∷◌, ◌++◌, length, get_or, take, refl, sym, ap, ◌∙◌, arith, rules, take_all, zero-add}
+use borrow.Author.Tests.{tests}
+use Rattle.std.specs.List.{list_all, enumerate_from}
+use Rattle.std.proofs.Math.Seq.{take-suc}
+use Rattle.std.proofs.lemmas.Iterator.{YieldsList-from_slice}
+use Rattle.std.proofs.lemmas.Iterator.Consumers.{YieldsList-from_enumerate}
+use Rattle.std.proofs.lemmas.Iterator.Search.{all_from_yields_List}
+use Rattle.std.proofs.lemmas.List.FromFn.{length-enumerate_from, get_or-enumerate_from}
+use Rattle.std.proofs.lemmas.List.Folds.{list_all-append}
 use Rattle.recorded.specs.Same.{skips, same_part}
 use Rattle.recorded.proofs.compare.same_part.Goals as goal
 
--- One word more.
-one_more : (every first last : ℕ) (ws ns : List ℕ) (place n i p x : ℕ) (s o : Bool) → s ≡ same_part every first last ws ns place n i → p ≡ (place + i) % 2 ^ 64
-    → x ≡ get_or ns p 0 → o ≡ skips every first last i → (s && (leb n i || o || eqb (get_or ws i 0) x)) ≡ same_part every first last ws ns place n (i + 1)
-unfolding same_part
-one_more every first last ws ns place n i p x s o before e f g =
-    let next : suc i ≡ i + 1 = omega arith in
-    let y : x ≡ get_or ns ((place + i) % 2 ^ 64) 0 = f ∙ ap (λ (k : ℕ). get_or ns k 0) e in
-    let so_far : Bool = same_part every first last ws ns place n i in
-    ap (λ (b : Bool). b && (leb n i || o || eqb (get_or ws i 0) x)) before
-    ∙ ap (λ (b : Bool). so_far && (leb n i || b || eqb (get_or ws i 0) x)) g
-    ∙ ap (λ (k : ℕ). so_far && (leb n i || skips every first last i || eqb (get_or ws i 0) k)) y
-    ∙ ap (λ (k : ℕ). same_part every first last ws ns place n k) next
+-- a word, with its place, is as recorded or none of the part
+abbrev test : (every first last : ℕ) (ns : List ℕ) (place n : ℕ) → ℕ × ℕ → Bool
+test every first last ns place n p = leb n p.0 || skips every first last p.0 || eqb p.1 (get_or ns ((place + p.0) % 2 ^ 64) 0)
 
-pub loop-i-init : goal.loop-i-init
-unfolding same_part
-loop-i-init c = (omega arith, refl)
+right : (b : Bool) → (b && true) ≡ b
+right true = refl
+right false = refl
 
-pub loop-i-preserved : goal.loop-i-preserved
-loop-i-preserved c =
-    let a = c.args in
-    let l = c.loop-i in (
-      omega (arith, c.loop-i-test.true),
-      one_more a.every a.first a.last a.words.now a.numbers.now a.at a.n l.i c.on.result c.get-x.result l.same
-          c.skips-o.result l.invariant.1 c.on.ensures c.get-x.ensures c.skips-o.ensures,
-    )
+one_more : (t : ℕ × ℕ → Bool) (xs : List (ℕ × ℕ)) (x : ℕ × ℕ) → list_all t (xs ++ (x ∷ [])) ≡ (list_all t xs && t x)
+one_more t xs x = list_all-append t xs (x ∷ []) ∙ ap (λ (b : Bool). list_all t xs && b) (right (t x))
+
+first_words : (every first last : ℕ) (ws ns : List ℕ) (place n k : ℕ) → k ≤ length ws
+    → list_all (test every first last ns place n) (take k (enumerate_from 0 ws)) ≡ same_part every first last ws ns place n k
+unfolding same_part
+first_words every first last ws ns place n zero h = refl
+first_words every first last ws ns place n (suc k) h =
+    let t = test every first last ns place n in
+    let es = enumerate_from 0 ws in
+    let long = length-enumerate_from 0 ws in
+    ap (list_all t) (take-suc es k (0, 0) (omega arith))
+    ∙ one_more t (take k es) (get_or es k (0, 0))
+    ∙ ap (λ (p : ℕ × ℕ). list_all t (take k es) && t p) (get_or-enumerate_from 0 ws k (0, 0) h ∙ ap (λ (i : ℕ). (i, get_or ws k 0)) (zero-add k))
+    ∙ ap (λ (b : Bool). b && t (k, get_or ws k 0)) (first_words every first last ws ns place n k (omega arith))
 
 pub returns : goal.returns
 returns c =
-    let args = c.args in
-    let l = c.loop-i in
-    let end : l.i ≡ length args.words.now = omega (arith, l.invariant.0, c.loop-i-test.false) in
-    l.invariant.1 ∙ ap (λ (k : ℕ). same_part args.every args.first args.last args.words.now args.numbers.now args.at args.n k) end
+    let a = c.args in
+    let ws = a.words.now in
+    let es = enumerate_from 0 ws in
+    all_from_yields_List (test a.every a.first a.last a.numbers.now a.at a.n) _ _ c.all.result c.all.ensures.ran
+    (YieldsList-from_enumerate (YieldsList-from_slice ws cc) cc) (λ x b q k. search (rules, tests))
+    ∙ ap (list_all (test a.every a.first a.last a.numbers.now a.at a.n)) (sym (take_all (length ws) es (omega (arith, length-enumerate_from 0 ws))))
+    ∙ first_words a.every a.first a.last ws a.numbers.now a.at a.n (length ws) (omega arith)

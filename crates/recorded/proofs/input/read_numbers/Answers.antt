@@ -19,23 +19,21 @@ none_left : (bs : List ℕ) (i left value n : ℕ) (out : List ℕ) → length b
 unfolding numbers_from put_at
 none_left bs i left value n out h = ap (λ (r : List ℕ). put_at n (numbers_from left value r) out) (drop_of_length-le bs h)
 
-pub loop-i-init : goal.loop-i-init
-loop-i-init c = (refl, refl)
+pub loop-b-init : goal.loop-b-init
+loop-b-init c = refl
 
-pub loop-i-preserved : goal.loop-i-preserved
-loop-i-preserved c =
+pub loop-b-preserved : goal.loop-b-preserved
+loop-b-preserved c =
     let a = c.args in
-    let v = c.loop-i in
+    let v = c.loop-b in
     let l = c.left_after-left in
     let x = c.value_after-value in
     let k = c.kept-n in
-    let e = one_more a.bytes.now v.i v.left v.value l.result x.result (omega arith) l.ensures x.ensures in (
-      k.ensures.0 ∙ v.invariant.0,
-      v.invariant.1 ∙ ap (λ (ns : List ℕ). put_at v.n ns v.out) e ∙ sym (k.ensures.1 (numbers_from l.result x.result (drop (v.i + 1) a.bytes.now))),
-    )
+    let e = one_more a.bytes.now v.b-index v.left v.value l.result x.result (omega arith) l.ensures x.ensures in
+    v.invariant ∙ ap (λ (ns : List ℕ). put_at v.n ns v.out) e ∙ sym (k.ensures.1 (numbers_from l.result x.result (drop (v.b-index + 1) a.bytes.now)))
 
 pub returns : goal.returns
 returns c =
     let a = c.args in
-    let v = c.loop-i in
-    sym (v.invariant.1 ∙ none_left a.bytes.now v.i v.left v.value v.n v.out (omega arith))
+    let v = c.loop-b in
+    sym (v.invariant ∙ none_left a.bytes.now v.b-index v.left v.value v.n v.out (omega arith))

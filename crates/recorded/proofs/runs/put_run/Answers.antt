@@ -1,12 +1,12 @@
 -- `recorded::runs::put_run` meets its contract. Assumes nothing.
-use Rattle.std.proofs.Common.{◌≡◌, ℕ, ◌-◌, get_or, refl, ap, ◌∙◌, arith, length-set}
+use Rattle.std.proofs.Common.{◌≡◌, ℕ, get_or, ap, ◌∙◌, arith}
 use Rattle.recorded.specs.Records.{word_after, run_put}
 use Rattle.recorded.proofs.Turns.{upto_start, upto_step, upto_done}
 use Rattle.recorded.proofs.runs.put_run.Invariants.{new}
 use Rattle.recorded.proofs.runs.put_run.Goals as goal
 
 pub loop-i-init : goal.loop-i-init
-loop-i-init c = (c.get-first.ensures, c.nth-n.ensures, refl, upto_start _ _)
+loop-i-init c = upto_start _ _
 
 pub loop-i-preserved : goal.loop-i-preserved
 loop-i-preserved c =
@@ -15,17 +15,13 @@ loop-i-preserved c =
     let w = c.word_after in
     let x : w.result ≡ new a.numbers.now a.at v.i (get_or v.words v.i 0) =
     w.ensures
-    ∙ ap (λ (k : ℕ). word_after a.numbers.now a.at k c.nth-n.result v.i (get_or v.words v.i 0)) v.invariant.0
-    ∙ ap (λ (k : ℕ). word_after a.numbers.now a.at (get_or a.numbers.now a.at 0) k v.i (get_or v.words v.i 0)) v.invariant.1 in (
-      v.invariant.0,
-      v.invariant.1,
-      length-set v.words v.i w.result ∙ v.invariant.2,
-      upto_step (new a.numbers.now a.at) a.words.now v.words v.i w.result (omega arith) v.invariant.3 x,
-    )
+    ∙ ap (λ (k : ℕ). word_after a.numbers.now a.at k c.nth-n.result v.i (get_or v.words v.i 0)) c.get-first.ensures
+    ∙ ap (λ (k : ℕ). word_after a.numbers.now a.at (get_or a.numbers.now a.at 0) k v.i (get_or v.words v.i 0)) c.nth-n.ensures in
+    upto_step (new a.numbers.now a.at) a.words.now v.words v.i w.result (omega arith) v.invariant x
 
 pub returns : goal.returns
 unfolding run_put
 returns c =
     let a = c.args in
     let v = c.loop-i in
-    upto_done (new a.numbers.now a.at) a.words.now v.words v.i (omega arith) v.invariant.3
+    upto_done (new a.numbers.now a.at) a.words.now v.words v.i (omega arith) v.invariant

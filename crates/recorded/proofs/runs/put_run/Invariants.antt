@@ -1,5 +1,5 @@
 -- `recorded::runs::put_run` meets its contract. Assumes nothing.
-use Rattle.std.proofs.Common.{◌≡◌, ℕ, ◌-◌, List, length, get_or}
+use Rattle.std.proofs.Common.{ℕ, List, get_or}
 use Rattle.recorded.specs.Stream.{nth}
 use Rattle.recorded.specs.Records.{word_after}
 use Rattle.recorded.proofs.Turns.{Upto}
@@ -9,7 +9,4 @@ abbrev pub new : List ℕ → ℕ → ℕ → ℕ → ℕ
 new ns place = word_after ns place (get_or ns place 0) (nth ns place 1)
 
 abbrev pub invariant-loop-i : goal.invariant-loop-i
-invariant-loop-i l = (l.first ≡ get_or l.numbers l.at 0) × (l.n ≡ nth l.numbers l.at 1) × (length l.words ≡ length l.initial.words) × Upto (new l.numbers l.at) l.initial.words l.i l.words
-
-abbrev pub decreases-loop-i : goal.decreases-loop-i
-decreases-loop-i l = length l.initial.words - l.i
+invariant-loop-i l = Upto (new l.numbers l.at) l.initial.words l.i l.words

@@ -1,5 +1,5 @@
 -- `recorded::stream::fill` meets its contract. Assumes nothing.
-use Rattle.std.proofs.Common.{◌≡◌, ℕ, ◌-◌, List, length}
+use Rattle.std.proofs.Common.{ℕ, List}
 use Rattle.recorded.specs.Stream.{nth}
 use Rattle.recorded.proofs.Turns.{Upto}
 use Rattle.recorded.proofs.stream.fill.Given as goal
@@ -9,7 +9,4 @@ abbrev pub new : List ℕ → ℕ → ℕ → ℕ → ℕ
 new ns place i w = nth ns place i
 
 abbrev pub invariant-loop-i : goal.invariant-loop-i
-invariant-loop-i l = (length l.l ≡ length l.initial.l) × Upto (new l.numbers l.at) l.initial.l l.i l.l
-
-abbrev pub decreases-loop-i : goal.decreases-loop-i
-decreases-loop-i l = length l.initial.l - l.i
+invariant-loop-i l = Upto (new l.numbers l.at) l.initial.l l.i l.l

@@ -1,5 +1,5 @@
 -- `recorded::stream::heights_at` meets its contract. Assumes nothing.
-use Rattle.std.proofs.Common.{◌≡◌, ℕ, ◌-◌, List, length, replicate}
+use Rattle.std.proofs.Common.{ℕ, List, replicate}
 use Rattle.recorded.specs.Stream.{nth, low}
 use Rattle.recorded.proofs.Turns.{Upto}
 use Rattle.recorded.proofs.stream.heights_at.Given as goal
@@ -8,7 +8,4 @@ abbrev pub new : List ℕ → ℕ → ℕ → ℕ → ℕ
 new ns place i w = low (nth ns place i)
 
 abbrev pub invariant-loop-i : goal.invariant-loop-i
-invariant-loop-i l = (length l.l ≡ 256) × Upto (new l.numbers l.at) (replicate 256 0) l.i l.l
-
-abbrev pub decreases-loop-i : goal.decreases-loop-i
-decreases-loop-i l = 256 - l.i
+invariant-loop-i l = Upto (new l.numbers l.at) (replicate 256 0) l.i l.height-items

@@ -26,7 +26,7 @@ pub returns-in-2 : goal.returns-in-2
 returns-in-2 c =
     let at = c in
     let a = at.args in
-    tells a.numbers.now a.at a.a a.kind at.if-kind-ge19.false at.in-2.is _ _ refl refl _ _ _ _ c.requested.ensures
+    tells a.numbers.now a.at a.a a.kind at.if-kind-ge19.false at.in-2.is _ _ refl refl _ _ _ _ c.truth.ensures
     c.request.ensures
 
 pub returns-in-3 : goal.returns-in-3

@@ -10,11 +10,11 @@ pub returns : goal.returns
 returns c =
     let start = c in
     let at-height-of = c.height_of-next in
-    let at-sought-of = c.sought_of-frontier in
+    let at-then-some = c.then_some-frontier in
     let at-height-of2 = c.height_of-highest in
     let at-observe-blocked = c.observe_blocked in
     let x = start.args.a in
     let n = sym at-height-of.ensures in
-    let f = sym at-sought-of.ensures in
+    let f = sym at-then-some.ensures in
     let t = sym at-height-of2.ensures in
     leaves_as _ _ _ (λ i. changes (observes x.l (look (n i) (f i) (is_set x.h) x.i (t i)))) _ _ at-observe-blocked.ensures

@@ -11,8 +11,8 @@ use Rattle.replayed.proofs.acts.rejects.Goals as goal
 pub returns : goal.returns
 returns c =
     let start = c in
-    let at-source-of = c.source_of-s in
+    let at-then-some = c.then_some-s in
     let at-reject-delivery = c.reject_delivery-l in
     let x = start.args.a in
     goes_performs (changes (rejecting x)) (λ y. rejected_row (rejected_flat y)) _ _ _ _ _ _ c.rejected.ensures
-    (goes_as _ _ _ (λ i. changes (rejects x.g x.hash0 (sym at-source-of.ensures i))) _ _ _ _ at-reject-delivery.ensures)
+    (goes_as _ _ _ (λ i. changes (rejects x.g x.hash0 (sym at-then-some.ensures i))) _ _ _ _ at-reject-delivery.ensures)

@@ -1,8 +1,0 @@
--- `delivery_calls::received` meets its contract. Assumes nothing.
-use Rattle.delivery_calls.proofs.received.Goals as goal
-
-pub returns-in-Nothing : goal.returns-in-Nothing
-returns-in-Nothing c = rw c.in-Nothing.is
-
-pub returns-in-At : goal.returns-in-At
-returns-in-At c = rw c.in-At.is
