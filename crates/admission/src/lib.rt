@@ -2,13 +2,16 @@
 // of a plan, 12 and then 10, see `plan_calls`.
 #![tactic(auto)]
 
-ghost use Rattle.std.specs.Prelude.{◌≡◌, true, false};
+ghost use Rattle.std.specs.Prelude.{◌≡◌, true, length, eqb, IfOk};
 ghost use Rattle.model.specs.Numbers.{clock_ok};
 ghost use Rattle.model.specs.Layout.{settings_ok};
 ghost use Rattle.model.specs.Says.{refusal_number};
-ghost use Rattle.model.specs.Refusals.{at, timeless, checking, nothing, keys_ok, window_refusal, opening_refusal, body_refusal, source_ok, alternates_ok};
+ghost use Rattle.model.specs.Lists.{all};
+ghost use Rattle.model.specs.Places.{seats};
+ghost use Rattle.model.specs.Refusals.{at, timeless, checking, nothing, seat_ok, moment_ok, report_ok, window_refusal, opening_refusal, body_refusal, source_ok, alternates_ok};
+ghost use Rattle.admission.specs.Given.{has_report, room_of, moment_at};
 
-use model::{Refusal, Settings, at, limits, sizes};
+use model::{PerSeat, Refusal, Settings, Words, at, limits, sizes};
 
 // `clock_ok`: a clock is within the bound, and not before the last accepted one.
 fn clock_fits(last: u64, clock: u64) -> bool
@@ -17,15 +20,43 @@ fn clock_fits(last: u64, clock: u64) -> bool
     (clock <= limits::MAX_CLOCK) & (last <= clock)
 }
 
-// What a call or query without a clock and without a report is refused by: 1, 2, 6.
-pub fn refused_by(words: &[u64], peers: bool) -> Result<(), Refusal>
-    ensures { refusal_number result ≡ window_refusal (checking false timeless peers nothing) words.now 0 }
+// `report_ok`: a call that has a report is lent 256 places.
+fn room_fits(room: Option<usize>) -> bool
+    ensures { result ≡ report_ok (has_report room) (room_of room) }
 {
-    if words.len() != at::WORDS {
-        return Err(Refusal::WordCount);
+    match room {
+        None => true,
+        Some(n) => n >= sizes::PLACES,
     }
-    if !check_window::is_window(words) {
+}
+
+// `moment_ok`, of the last accepted clock.
+fn is_in_time(last: u64, clock: Option<u64>) -> bool
+    ensures { result ≡ moment_ok (moment_at clock) last }
+{
+    match clock {
+        None => true,
+        Some(c) => clock_fits(last, c),
+    }
+}
+
+// 2, 3, 4, 6.
+fn refused_by(
+    words: &Words,
+    room: Option<usize>,
+    clock: Option<u64>,
+    peers: bool,
+) -> Result<(), Refusal>
+    ensures { refusal_number result ≡ window_refusal (checking (has_report room) (moment_at clock) peers nothing) words.now (room_of room) }
+{
+    if !check_window::holds_window(words) {
         return Err(Refusal::NotAWindow);
+    }
+    if !room_fits(room) {
+        return Err(Refusal::ShortReport);
+    }
+    if !is_in_time(state::get_clock(words), clock) {
+        return Err(Refusal::Clock);
     }
     if !peers {
         return Err(Refusal::Seats);
@@ -33,24 +64,20 @@ pub fn refused_by(words: &[u64], peers: bool) -> Result<(), Refusal>
     Ok(())
 }
 
-// The same with a clock: 1, 2, 4, 6.
-pub fn refused_by_at(words: &[u64], clock: u64, peers: bool) -> Result<(), Refusal>
-    ensures { refusal_number result ≡ window_refusal (checking false (at clock) peers nothing) words.now 0 }
+// What a call or a query is refused by: 1, 2, 3 where it has a report, of `room` places, 4 where it has a clock, 6. Where nothing refuses, the words as they are,
+// an array.
+pub fn admitted(
+    words: &[u64],
+    room: Option<usize>,
+    clock: Option<u64>,
+    peers: bool,
+) -> Result<&Words, Refusal>
+    ensures refusal { refusal_number result ≡ window_refusal (checking (has_report room) (moment_at clock) peers nothing) words.now (room_of room) }
+    ensures same { IfOk result (λ w. w.now ≡ words.now) }
 {
-    if words.len() != at::WORDS {
-        return Err(Refusal::WordCount);
-    }
-    if !check_window::is_window(words) {
-        return Err(Refusal::NotAWindow);
-    }
-    let last = state::get_clock(words);
-    if !clock_fits(last, clock) {
-        return Err(Refusal::Clock);
-    }
-    if !peers {
-        return Err(Refusal::Seats);
-    }
-    Ok(())
+    let array = words.as_array().ok_or(Refusal::WordCount)?;
+    refused_by(array, room, clock, peers)?;
+    Ok(array)
 }
 
 // ---- the opening
@@ -73,21 +100,22 @@ fn settings_fit(b: Settings) -> bool
         & (b.staller_cooldown <= limits::MAX_DURATION)
 }
 
-// `keys_ok`: 256 keys, each at most 255.
-fn keys_fit(keys: &[u64]) -> bool
-    ensures { result ≡ keys_ok keys.now }
+// `seat_ok` of each.
+fn all_seats(keys: &[u64]) -> bool
+    ensures { result ≡ all seat_ok keys.now }
 {
-    keys.len() == sizes::SEATS && keys.iter().all(|k| *k <= limits::MAX_SEAT)
+    keys.iter().all(|k| *k <= limits::MAX_SEAT)
 }
 
-// What an opening is refused by: 1, 4 by the bound alone, 5, 6. Of the words it reads nothing.
-pub fn opening_refused_by(
+// What an opening is refused by: 1, 4 by the bound alone, 5, 6. Of the words it reads nothing. Where nothing refuses, the keys, an array.
+pub fn opening_admitted<'a>(
     words: &[u64],
     clock: u64,
     b: Settings,
-    keys: &[u64],
-) -> Result<(), Refusal>
-    ensures { refusal_number result ≡ opening_refusal clock b keys.now words.now }
+    keys: &'a [u64],
+) -> Result<&'a PerSeat, Refusal>
+    ensures refusal { refusal_number result ≡ opening_refusal clock b keys.now words.now }
+    ensures same { IfOk result (λ k. k.now ≡ keys.now) }
 {
     if words.len() != at::WORDS {
         return Err(Refusal::WordCount);
@@ -98,49 +126,29 @@ pub fn opening_refused_by(
     if !settings_fit(b) {
         return Err(Refusal::Settings);
     }
-    if !keys_fit(keys) {
+    let array = keys.as_array().ok_or(Refusal::Seats)?;
+    if !all_seats(array) {
         return Err(Refusal::Seats);
     }
-    Ok(())
+    Ok(array)
 }
 
 // ---- calls that let go
 
-// What a call that lets go, without a clock, is refused by: 1, 2, 3, 6. `room` is the report's length.
-pub fn timeless_report_refused_by(words: &[u64], room: usize, peers: bool) -> Result<(), Refusal>
-    ensures { refusal_number result ≡ window_refusal (checking true timeless peers nothing) words.now room }
+// What a call that lets go of whole seats is refused by: 1, 2, 3, 6. Where nothing refuses, the flags, an array.
+pub fn flags_admitted<'a>(
+    words: &[u64],
+    room: usize,
+    flags: &'a [u64],
+) -> Result<&'a PerSeat, Refusal>
+    ensures refusal { refusal_number result ≡ window_refusal (checking true timeless (eqb (length flags.now) seats) nothing) words.now room }
+    ensures same { IfOk result (λ f. f.now ≡ flags.now) }
 {
-    if words.len() != at::WORDS {
-        return Err(Refusal::WordCount);
-    }
-    if !check_window::is_window(words) {
-        return Err(Refusal::NotAWindow);
-    }
-    if room < sizes::PLACES {
-        return Err(Refusal::ShortReport);
-    }
-    if !peers {
-        return Err(Refusal::Seats);
-    }
-    Ok(())
+    admitted(words, Some(room), None, true)?;
+    Ok(flags.as_array().ok_or(Refusal::Seats)?)
 }
 
-// The same with a clock: 1, 2, 3, 4, 6.
-pub fn report_refused_by(words: &[u64], room: usize, clock: u64, peers: bool) -> Result<(), Refusal>
-    ensures { refusal_number result ≡ window_refusal (checking true (at clock) peers nothing) words.now room }
-{
-    timeless_report_refused_by(words, room, true)?;
-    let accepted = state::get_clock(words);
-    if !clock_fits(accepted, clock) {
-        return Err(Refusal::Clock);
-    }
-    if !peers {
-        return Err(Refusal::Seats);
-    }
-    Ok(())
-}
-
-// The same with a clock and a body: 1, 2, 3, 4, 6, 9.
+// What a delivery is refused by: 1, 2, 3, 4, 6, 9.
 pub fn body_refused_by(
     words: &[u64],
     room: usize,
@@ -150,7 +158,7 @@ pub fn body_refused_by(
 ) -> Result<(), Refusal>
     ensures { refusal_number result ≡ window_refusal (checking true (at clock) peers (body_refusal bytes)) words.now room }
 {
-    report_refused_by(words, room, clock, peers)?;
+    admitted(words, Some(room), Some(clock), peers)?;
     if bytes > limits::MAX_BODY {
         return Err(Refusal::Body);
     }
@@ -173,5 +181,5 @@ pub fn source_ok(source: Option<u64>) -> bool
 pub fn alternates_ok(alternates: &[u64]) -> bool
     ensures { result ≡ alternates_ok alternates.now }
 {
-    alternates.len() <= sizes::SEATS && alternates.iter().all(|s| *s <= limits::MAX_SEAT)
+    alternates.len() <= sizes::SEATS && all_seats(alternates)
 }

@@ -17,7 +17,7 @@ ghost use Rattle.records.specs.Places.{stored};
 ghost use Rattle.report_words.specs.Report.{releases_of};
 ghost use Rattle.batch.specs.Resets.{Oldests, Went, seats_of};
 
-use model::{at, of_release, sizes};
+use model::{Gone, PerPlace, Words, at, of_release, sizes};
 
 // ---- the oldest request that each seat has left
 
@@ -32,8 +32,8 @@ fn sooner_stored(t: u64, u: u64) -> u64
 }
 
 // `oldest`, of every seat
-fn oldest_left(words: &[u64], count: usize) -> [u64; sizes::SEATS]
-    requires { (length words.now ≡ 4096) × ((count ≡ length (window_of words.now).queue.pending) × Ranged (window_of words.now)) }
+fn oldest_left(words: &Words, count: usize) -> [u64; sizes::SEATS]
+    requires { (count ≡ length (window_of words.now).queue.pending) × Ranged (window_of words.now) }
     ensures { Oldests result (window_of words.now).queue.pending }
 {
     let mut left = [0; sizes::SEATS];
@@ -54,8 +54,8 @@ fn left_of(s: u64) -> Option<u64>
 }
 
 // `resets`, over the first `n` releases.
-fn reset_all(words: &mut [u64], gone: &[u64], n: usize, clock: u64, left: &[u64; sizes::SEATS])
-    requires { (length words.old ≡ 4096) × ((length gone.now ≡ 2304) × ((n ≤ 256) × ((clock ≤ max_clock) × (Went (InRange max_clock) (releases_of n gone.now) × Oldests left.now (window_of words.old).queue.pending)))) }
+fn reset_all(words: &mut Words, gone: &Gone, n: usize, clock: u64, left: &[u64; sizes::SEATS])
+    requires { (n ≤ 256) × (clock ≤ max_clock) × Went (InRange max_clock) (releases_of n gone.now) × (Oldests left.now (window_of words.old).queue.pending) }
     ensures { decode words.new ≡ seats_of (resets clock (releases_of n gone.now) (window_of words.old).queue) (decode words.old) }
 {
     for i in 0..n {
@@ -68,8 +68,8 @@ fn reset_all(words: &mut [u64], gone: &[u64], n: usize, clock: u64, left: &[u64;
 }
 
 // `resets`, over what went.
-pub fn reset_gone(words: &mut [u64], gone: &[u64], n: usize, clock: u64)
-    requires { Whole words.old × (Ranged (window_of words.old) × ((length gone.now ≡ 2304) × ((n ≤ 256) × ((clock ≤ max_clock) × Went (InRange max_clock) (releases_of n gone.now))))) }
+pub fn reset_gone(words: &mut Words, gone: &Gone, n: usize, clock: u64)
+    requires { Whole words.old × Ranged (window_of words.old) × (n ≤ 256) × (clock ≤ max_clock) × Went (InRange max_clock) (releases_of n gone.now) }
     ensures { Holds (with_queue (resets clock (releases_of n gone.now) (window_of words.old).queue) (window_of words.old)) words.new }
 {
     let count = state_queue::pending_count(words);
@@ -80,8 +80,8 @@ pub fn reset_gone(words: &mut [u64], gone: &[u64], n: usize, clock: u64)
 // ---- marked records out
 
 // `extract_by`: the records whose mark is not 0 go. Answers how many. Where there are none, as in most sweeps, no column is walked (`extract_none`).
-pub fn take_marked(words: &mut [u64], gone: &mut [u64], marks: &[u64]) -> usize
-    requires { Whole words.old × ((length gone.old ≡ 2304) × (length marks.now ≡ 256)) }
+pub fn take_marked(words: &mut Words, gone: &mut Gone, marks: &PerPlace) -> usize
+    requires { Whole words.old }
     ensures { (result ≤ 256)
         × (Holds (extract_by marks.now (window_of words.old)).window words.new)
         × (releases_of result gone.new ≡ (extract_by marks.now (window_of words.old)).gone) }
@@ -101,8 +101,8 @@ pub fn take_marked(words: &mut [u64], gone: &mut [u64], marks: &[u64]) -> usize
 }
 
 // `batch` of `extract_by`: what is marked goes, then each resets its owner's start.
-pub fn let_go(words: &mut [u64], gone: &mut [u64], marks: &[u64], clock: u64) -> usize
-    requires { Whole words.old × (Ranged (window_of words.old) × ((length gone.old ≡ 2304) × ((length marks.now ≡ 256) × (clock ≤ max_clock)))) }
+pub fn let_go(words: &mut Words, gone: &mut Gone, marks: &PerPlace, clock: u64) -> usize
+    requires { Whole words.old × Ranged (window_of words.old) × (clock ≤ max_clock) }
     ensures { (result ≤ 256)
         × (Holds (batch clock (extract_by marks.now (window_of words.old))).window words.new)
         × (releases_of result gone.new ≡ (extract_by marks.now (window_of words.old)).gone) }

@@ -14,7 +14,7 @@ ghost use Rattle.laws.specs.Sound.{Sound};
 ghost use Rattle.laws.specs.Whole.{Whole, Holds};
 ghost use Rattle.report_words.specs.Report.{releases_of};
 
-use model::{Entry, Hash, Rejected};
+use model::{Entry, Hash, Reason, Rejected, Words};
 
 // ---- deliveries
 
@@ -26,7 +26,7 @@ pub fn height_of(front: Option<Entry>) -> Option<u64>
 }
 
 // What `credit_delivery_from` does before the races: the source's last body, and the observation.
-pub fn credit_begun(words: &mut [u64], h: Hash, source: u64, clock: u64)
+pub fn credit_begun(words: &mut Words, h: Hash, source: u64, clock: u64)
     requires { Whole words.old × (Sound clock (window_of words.old) × (source ≤ max_seat)) }
     ensures { Holds (credit_duplicate_delivery h source (body_noted source clock (window_of words.old))) words.new }
 {
@@ -48,7 +48,7 @@ fn is_owner(source: Option<u64>, front: Option<Entry>) -> bool
 
 // `reject_delivery`, and what it says: only its owner's rejection lets the entry go.
 pub fn reject_delivery(
-    words: &mut [u64],
+    words: &mut Words,
     gone: &mut [u64],
     h: Hash,
     source: Option<u64>,
@@ -63,7 +63,7 @@ pub fn reject_delivery(
     let owns = is_owner(source, front);
     deliveries::rejected_by(words, source, h);
     if owns {
-        let n = release::remove_pending(words, gone, h, 2, clock);
+        let n = release::remove_pending(words, gone, h, Reason::OwnerRejection, clock);
         return Rejected::ReleasedPending(n as u64);
     }
     Rejected::DiscardedUnsolicited

@@ -50,8 +50,8 @@ pub fn capacity_left(
 fn batch_limit(b: Settings, f: Fanout, owned: u64, len: u64, count_headroom: u64) -> u64
     ensures { result ≡ batch_limit_by b f owned len count_headroom }
 {
-    let share = numbers::minus(peer_inflight(b, f), owned);
-    let blocks = numbers::minus(b.max_pending_blocks, len);
+    let share = peer_inflight(b, f).saturating_sub(owned);
+    let blocks = b.max_pending_blocks.saturating_sub(len);
     numbers::lesser(
         numbers::lesser(b.getdata_batch_limit, share),
         numbers::lesser(blocks, count_headroom),
@@ -62,7 +62,7 @@ fn batch_limit(b: Settings, f: Fanout, owned: u64, len: u64, count_headroom: u64
 fn byte_capacity(b: Settings, total: u64, byte_headroom: u64) -> u64
     ensures { result ≡ byte_capacity_by b total byte_headroom }
 {
-    numbers::lesser(numbers::minus(b.max_pending_bytes, total), byte_headroom)
+    numbers::lesser(b.max_pending_bytes.saturating_sub(total), byte_headroom)
 }
 
 // `compute_request_capacity` on numbers, a batch limit and a byte capacity: none when the limit is 0 or the capacity is under the mean.

@@ -2,11 +2,11 @@
 // not there is 0 throughout; one that is there has its ranges.
 #![tactic(auto)]
 
-ghost use Rattle.std.specs.Prelude.{◌≡◌, ◌+◌, ◌≤◌, length, eqb};
+ghost use Rattle.std.specs.Prelude.{◌≡◌, ◌+◌, ◌≤◌, eqb};
 ghost use Rattle.model.specs.Layout.{decode, counts_ok, settings_ok, settings_of, small_ok, cold_ok, hedged_ok, observation_ok};
 ghost use Rattle.facts.specs.Words.{zeros, clock, since_fits, probe_fits, later_fits, head_fits};
 
-use model::{at, head, limits, sizes};
+use model::{Words, at, head, limits, sizes};
 
 pub fn to_usize(x: u64) -> usize
     ensures { result ≡ x }
@@ -15,8 +15,8 @@ pub fn to_usize(x: u64) -> usize
 }
 
 // OR of the n words from a on.
-pub fn any_bits(w: &[u64], a: usize, n: usize) -> u64
-    requires { (a + n ≤ 4096) × (length w.now ≡ 4096) }
+pub fn any_bits(w: &Words, a: usize, n: usize) -> u64
+    requires { a + n ≤ 4096 }
     ensures { eqb result 0 ≡ zeros w.now a n }
 {
     let mut acc: u64 = 0;
@@ -27,8 +27,7 @@ pub fn any_bits(w: &[u64], a: usize, n: usize) -> u64
 }
 
 // Format, count, last clock, high waters, mean, frontier.
-fn counts(w: &[u64]) -> bool
-    requires { length w.now ≡ 4096 }
+fn counts(w: &Words) -> bool
     ensures { result ≡ counts_ok (decode w.now) }
 {
     let n = w[at::COUNT];
@@ -43,8 +42,7 @@ fn counts(w: &[u64]) -> bool
         & (w[at::FRONTIER] <= limits::MAX_HEIGHT)
 }
 
-fn settings(w: &[u64]) -> bool
-    requires { length w.now ≡ 4096 }
+fn settings(w: &Words) -> bool
     ensures { result ≡ settings_ok (settings_of (decode w.now)) }
 {
     (w[at::MAX_PENDING_BLOCKS] <= limits::MAX_PENDING)
@@ -62,8 +60,8 @@ fn settings(w: &[u64]) -> bool
 }
 
 // Engaged, the pace, preferred and attempted.
-fn small(w: &[u64]) -> bool
-    requires { (length w.now ≡ 4096) × (clock w.now ≤ 4611686018427387904) }
+fn small(w: &Words) -> bool
+    requires { clock w.now ≤ 4611686018427387904 }
     ensures { result ≡ small_ok (decode w.now) }
 {
     let latest = w[at::LAST_CLOCK] + 1;
@@ -76,8 +74,8 @@ fn small(w: &[u64]) -> bool
 }
 
 // The stall or the stuck frontier: six words from a on, the first a stored time, the second at most m.
-fn since(w: &[u64], a: usize, m: u64) -> bool
-    requires { (length w.now ≡ 4096) × (clock w.now ≤ 4611686018427387904) × (a + 6 ≤ 4096) }
+fn since(w: &Words, a: usize, m: u64) -> bool
+    requires { (clock w.now ≤ 4611686018427387904) × (a + 6 ≤ 4096) }
     ensures { result ≡ since_fits w.now a m }
 {
     let t = w[a];
@@ -89,8 +87,8 @@ fn since(w: &[u64], a: usize, m: u64) -> bool
 }
 
 // The cold front: none, waiting since, or racing with another seat.
-fn cold(w: &[u64]) -> bool
-    requires { (length w.now ≡ 4096) × (clock w.now ≤ 4611686018427387904) }
+fn cold(w: &Words) -> bool
+    requires { clock w.now ≤ 4611686018427387904 }
     ensures { result ≡ cold_ok (decode w.now) }
 {
     let tag = w[at::COLD];
@@ -106,8 +104,7 @@ fn cold(w: &[u64]) -> bool
 }
 
 // At most two hedged fronts, and 0 after them.
-fn hedged(w: &[u64]) -> bool
-    requires { length w.now ≡ 4096 }
+fn hedged(w: &Words) -> bool
     ensures { result ≡ hedged_ok (decode w.now) }
 {
     let n = to_usize(w[at::HEDGED]);
@@ -121,8 +118,7 @@ fn hedged(w: &[u64]) -> bool
     ) == 0
 }
 
-fn observation(w: &[u64]) -> bool
-    requires { length w.now ≡ 4096 }
+fn observation(w: &Words) -> bool
     ensures { result ≡ observation_ok (decode w.now) }
 {
     let tag = w[at::OBSERVATION];
@@ -133,8 +129,8 @@ fn observation(w: &[u64]) -> bool
 }
 
 // The probe and its planned hashes: at most eight, and 0 after them.
-fn probe(w: &[u64]) -> bool
-    requires { (length w.now ≡ 4096) × (clock w.now ≤ 4611686018427387904) }
+fn probe(w: &Words) -> bool
+    requires { clock w.now ≤ 4611686018427387904 }
     ensures { result ≡ probe_fits (decode w.now) }
 {
     let since = w[at::PROBE];
@@ -159,8 +155,8 @@ fn probe(w: &[u64]) -> bool
 }
 
 // The head's parts, but for those of its first words.
-fn parts(w: &[u64]) -> bool
-    requires { (length w.now ≡ 4096) × (clock w.now ≤ 4611686018427387904) }
+fn parts(w: &Words) -> bool
+    requires { clock w.now ≤ 4611686018427387904 }
     ensures { result ≡ later_fits w.now }
 {
     let a = settings(w);
@@ -176,8 +172,7 @@ fn parts(w: &[u64]) -> bool
 }
 
 // The whole head.
-pub fn head(w: &[u64]) -> bool
-    requires { length w.now ≡ 4096 }
+pub fn head(w: &Words) -> bool
     ensures { result ≡ head_fits w.now }
 {
     if !counts(w) {

@@ -5,15 +5,15 @@
 ghost use Rattle.std.specs.Prelude.{◌≡◌, ℕ, ◌+◌, ◌^◌, ◌<◌, ◌≤◌, ◌&&◌, length, ◌==◌, nat_le, nat_lt, slice_index};
 ghost use Rattle.model.specs.Layout.{is_window};
 ghost use Rattle.model.specs.Refusals.{is_long};
-ghost use Rattle.facts.specs.Words.{count, clock, blank_at, tails_zero, unused_zero, fields_fit, rises, records_fit, total_fits, earlier, oldest_of, start_by, most_raced, seat_by, seats_fit};
+ghost use Rattle.facts.specs.Words.{count, clock, entry, blank_at, tails_zero, unused_zero, fields_fit, rises, records_fit, total_fits, earlier, oldest_of, start_by, most_raced, seat_by, seats_fit};
 
-use model::{at, limits, sizes};
+use model::{Hash, Words, at, limits, sizes};
 
 // ---- what must be 0
 
 // OR of the eight words of place i.
-fn place(w: &[u64], i: usize) -> u64
-    requires { (length w.now ≡ 4096) × (i < 256) }
+fn place(w: &Words, i: usize) -> u64
+    requires { i < 256 }
     ensures { (result == 0) ≡ blank_at w.now i }
 {
     w[i] | w[at::HASH_B + i]
@@ -26,8 +26,8 @@ fn place(w: &[u64], i: usize) -> u64
 }
 
 // OR of the places after the records.
-fn tails(w: &[u64]) -> u64
-    requires { (length w.now ≡ 4096) × (count w.now ≤ 256) }
+fn tails(w: &Words) -> u64
+    requires { count w.now ≤ 256 }
     ensures { (result == 0) ≡ tails_zero w.now }
 {
     let n = check_head::to_usize(w[at::COUNT]);
@@ -40,8 +40,8 @@ fn tails(w: &[u64]) -> u64
 }
 
 // The places after the records and the words kept for a ninth column.
-fn unused(w: &[u64]) -> bool
-    requires { (length w.now ≡ 4096) × (count w.now ≤ 256) }
+fn unused(w: &Words) -> bool
+    requires { count w.now ≤ 256 }
     ensures { result ≡ unused_zero w.now }
 {
     let t = tails(w);
@@ -51,30 +51,34 @@ fn unused(w: &[u64]) -> bool
 
 // ---- records
 
+// The hash of record i.
+#[tactic(auto, unfolding(facts::specs::Words::entry))]
+fn hash_at(w: &Words, i: usize) -> Hash
+    requires { i < 256 }
+    ensures { result ≡ (entry w.now i).hash }
+{
+    Hash {
+        a: w[i],
+        b: w[at::HASH_B + i],
+        c: w[at::HASH_C + i],
+        d: w[at::HASH_D + i],
+    }
+}
+
 // Whether the hash of record i is above the one before.
-fn rising(w: &[u64], i: usize) -> bool
-    requires { (length w.now ≡ 4096) × (i < 256) }
+fn rising(w: &Words, i: usize) -> bool
+    requires { i < 256 }
     ensures { result ≡ rises w.now i }
 {
     if i == 0 {
         return true;
     }
-    let j = i - 1;
-    hash::less_words(
-        w[j],
-        w[at::HASH_B + j],
-        w[at::HASH_C + j],
-        w[at::HASH_D + j],
-        w[i],
-        w[at::HASH_B + i],
-        w[at::HASH_C + i],
-        w[at::HASH_D + i],
-    )
+    hash::less(hash_at(w, i - 1), hash_at(w, i))
 }
 
 // The ranges of record i.
-fn fields(w: &[u64], i: usize) -> bool
-    requires { (length w.now ≡ 4096) × (i < 256) }
+fn fields(w: &Words, i: usize) -> bool
+    requires { i < 256 }
     ensures { result ≡ fields_fit w.now i }
 {
     let x = w[at::ESTIMATES + i];
@@ -144,7 +148,7 @@ fn raced(since: u64) -> u64
 }
 
 // The tables, in one loop with no exit.
-fn seats(w: &[u64], first: &[u64; sizes::SEATS]) -> bool
+fn seats(w: &Words, first: &[u64; sizes::SEATS]) -> bool
     requires w_len { (length w.now ≡ 4096) × (clock w.now ≤ 4611686018427387904) }
     requires by_index { (s : ℕ) → slice_index first.now s ≡ oldest_of w.now s (count w.now) }
     requires by_index_2 { (s : ℕ) → slice_index first.now s < 2 ^ 63 }
@@ -170,8 +174,8 @@ fn seats(w: &[u64], first: &[u64; sizes::SEATS]) -> bool
 }
 
 // Records in one loop, which fills the table of each seat's oldest; then the seats.
-fn records(w: &[u64]) -> bool
-    requires { (length w.now ≡ 4096) × (count w.now ≤ 256) × (clock w.now ≤ 4611686018427387904) }
+fn records(w: &Words) -> bool
+    requires { (count w.now ≤ 256) × (clock w.now ≤ 4611686018427387904) }
     ensures { result ≡ (records_fit w.now && total_fits w.now && seats_fit w.now) }
 {
     let n = check_head::to_usize(w[at::COUNT]);
@@ -198,13 +202,10 @@ fn records(w: &[u64]) -> bool
 
 // ---- all of it
 
-// Whether the words count as a window, however many they are.
-pub fn is_window(words: &[u64]) -> bool
-    ensures { result ≡ (is_long words.now && is_window words.now) }
+// `is_window`, of as many words as a window has.
+pub fn holds_window(words: &Words) -> bool
+    ensures { result ≡ is_window words.now }
 {
-    if words.len() != at::WORDS {
-        return false;
-    }
     if !check_head::head(words) {
         return false;
     }
@@ -212,4 +213,14 @@ pub fn is_window(words: &[u64]) -> bool
         return false;
     }
     records(words)
+}
+
+// Whether the words count as a window, however many they are.
+pub fn is_window(words: &[u64]) -> bool
+    ensures { result ≡ (is_long words.now && is_window words.now) }
+{
+    match words.as_array() {
+        None => false,
+        Some(array) => holds_window(array),
+    }
 }

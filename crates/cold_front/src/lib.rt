@@ -11,7 +11,7 @@ ghost use Rattle.laws.specs.Sound.{SoundCold};
 ghost use Rattle.laws.specs.Whole.{Whole, Holds};
 ghost use Rattle.cold_front.specs.Cold.{asked, turned};
 
-use model::{ColdFront, Entry, Hash, limits};
+use model::{ColdFront, Entry, Hash, Words, limits};
 
 // The model's `ColdStep`; what it asks is an owner and a hash to hedge, where there is one.
 #[derive(Clone, Copy)]
@@ -79,14 +79,11 @@ fn goes_on(owner: u64, h: Hash, since: u64, initial: u64, clock: u64) -> Turn
     ensures { turned result ≡ cold_step (Waiting owner h since) (cond (leb initial (clock - since)) (hedge owner h) no_hedge) }
 {
     let cold = ColdFront::Waiting(owner, h, since);
-    if numbers::minus(clock, since) < initial {
-        return Turn {
-            cold: cold,
-            asks: None,
-        };
+    if clock.saturating_sub(since) < initial {
+        return Turn { cold, asks: None };
     }
     Turn {
-        cold: cold,
+        cold,
         asks: Some((owner, h)),
     }
 }
@@ -109,16 +106,13 @@ fn wait_on(cold: ColdFront, e: Entry, initial: u64, clock: u64) -> Turn
 }
 
 // `advance_cold_front`, before it is written.
-fn next_turn(words: &[u64], next: u64, clock: u64) -> Turn
+fn next_turn(words: &Words, next: u64, clock: u64) -> Turn
     requires { Whole words.now }
     ensures { turned result ≡ advance_cold_front next clock (window_of words.now) }
 {
     let cold = state::get_cold(words);
     if is_racing(cold) {
-        return Turn {
-            cold: cold,
-            asks: None,
-        };
+        return Turn { cold, asks: None };
     }
     let pace = state::get_pace(words);
     if pace.mean != 0 {
@@ -137,7 +131,7 @@ fn next_turn(words: &[u64], next: u64, clock: u64) -> Turn
 }
 
 // `advance_cold_front`: the cold front is written, the hedge is the answer.
-pub fn advance_cold_front(words: &mut [u64], next: u64, clock: u64) -> Option<(u64, Hash)>
+pub fn advance_cold_front(words: &mut Words, next: u64, clock: u64) -> Option<(u64, Hash)>
     requires { Whole words.old × ((clock ≤ max_clock) × SoundCold clock (window_of words.old).races.cold) }
     ensures { (asked result ≡ (advance_cold_front next clock (window_of words.old)).asks) × Holds (with_cold (advance_cold_front next clock (window_of words.old)).cold (window_of words.old)) words.new }
 {
@@ -149,7 +143,7 @@ pub fn advance_cold_front(words: &mut [u64], next: u64, clock: u64) -> Option<(u
 }
 
 // `hedge_offered`
-pub fn hedge_offered(words: &[u64], source: u64, h: Hash) -> bool
+pub fn hedge_offered(words: &Words, source: u64, h: Hash) -> bool
     requires { Whole words.now }
     ensures { result ≡ hedge_offered source h (window_of words.now) }
 {
@@ -158,7 +152,7 @@ pub fn hedge_offered(words: &[u64], source: u64, h: Hash) -> bool
 }
 
 // `confirm_cold_front_hedge`
-pub fn confirm_cold_front_hedge(words: &mut [u64], owner: u64, alternate: u64, h: Hash)
+pub fn confirm_cold_front_hedge(words: &mut Words, owner: u64, alternate: u64, h: Hash)
     requires { Whole words.old }
     ensures { Holds (confirm_cold_front_hedge owner alternate h (window_of words.old)) words.new }
 {

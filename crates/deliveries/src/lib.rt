@@ -12,13 +12,12 @@ ghost use Rattle.laws.specs.Sound.{Sound};
 ghost use Rattle.laws.specs.Whole.{Whole, Holds};
 ghost use Rattle.states.specs.Fits.{cold_fits};
 
-use lent_pace::Turn;
-use model::{Entry, Fanout, Hash};
+use model::{Entry, Fanout, Hash, Words};
 
 // ---- deliveries
 
 // `credit_duplicate_delivery`
-pub fn credit_duplicate_delivery(words: &mut [u64], h: Hash, source: u64)
+pub fn credit_duplicate_delivery(words: &mut Words, h: Hash, source: u64)
     requires { Whole words.old }
     ensures { Holds (credit_duplicate_delivery h source (window_of words.old)) words.new }
 {
@@ -28,7 +27,7 @@ pub fn credit_duplicate_delivery(words: &mut [u64], h: Hash, source: u64)
 }
 
 // `record_delivery_progress`
-pub fn record_delivery_progress(words: &mut [u64], source: u64, h: Hash, height: u64, clock: u64)
+pub fn record_delivery_progress(words: &mut Words, source: u64, h: Hash, height: u64, clock: u64)
     requires { Whole words.old × Sound clock (window_of words.old) }
     ensures { Holds (record_delivery_progress source h height clock (window_of words.old)) words.new }
 {
@@ -36,7 +35,7 @@ pub fn record_delivery_progress(words: &mut [u64], source: u64, h: Hash, height:
     let x = rules::unless_stalled(h, source, s);
     let b = state::get_settings(words);
     let p = state::get_pace(words);
-    let q = lent_pace::changed(Turn::Front, p, b, clock);
+    let q = lent_pace::lend_at_front(p, b, clock);
     let front = state_queue::was_front(words, height);
     state::set_stall(words, x);
     if front {
@@ -45,7 +44,7 @@ pub fn record_delivery_progress(words: &mut [u64], source: u64, h: Hash, height:
 }
 
 // `progress_by`: a delivery without a pending height is no front.
-pub fn progress_by(words: &mut [u64], height: Option<u64>, source: u64, h: Hash, clock: u64)
+pub fn progress_by(words: &mut Words, height: Option<u64>, source: u64, h: Hash, clock: u64)
     requires { Whole words.old × Sound clock (window_of words.old) }
     ensures { Holds (progress_by height source h clock (window_of words.old)) words.new }
 {
@@ -55,7 +54,7 @@ pub fn progress_by(words: &mut [u64], height: Option<u64>, source: u64, h: Hash,
 }
 
 // The mean moves by `next_mean`, whether the body was asked for (then `front` is its entry) or not.
-pub fn move_mean(words: &mut [u64], front: Option<Entry>, bytes: u64)
+pub fn move_mean(words: &mut Words, front: Option<Entry>, bytes: u64)
     requires { Whole words.old × (((window_of words.old).mean ≤ max_estimate) × (bytes ≤ max_body)) }
     ensures { Holds (with_mean (next_mean (window_of words.old).mean bytes) (window_of words.old)) words.new }
 {
@@ -66,7 +65,7 @@ pub fn move_mean(words: &mut [u64], front: Option<Entry>, bytes: u64)
 
 // ---- rejections
 
-fn rejected_from(words: &mut [u64], source: u64, h: Hash)
+fn rejected_from(words: &mut Words, source: u64, h: Hash)
     requires { Whole words.old × cold_fits (window_of words.old).races.cold }
     ensures { Holds (rejected_by (Some source) h (window_of words.old)) words.new }
 {
@@ -77,7 +76,7 @@ fn rejected_from(words: &mut [u64], source: u64, h: Hash)
 }
 
 // `rejected_by`: what a rejection changes before the entry goes; a missing source changes nothing.
-pub fn rejected_by(words: &mut [u64], source: Option<u64>, h: Hash)
+pub fn rejected_by(words: &mut Words, source: Option<u64>, h: Hash)
     requires { Whole words.old × cold_fits (window_of words.old).races.cold }
     ensures { Holds (rejected_by source h (window_of words.old)) words.new }
 {
@@ -89,7 +88,7 @@ pub fn rejected_by(words: &mut [u64], source: Option<u64>, h: Hash)
 // ---- other calls
 
 // `set_fanout_eligible_peers`
-pub fn set_fanout_eligible_peers(words: &mut [u64], n: u64, clock: u64)
+pub fn set_fanout_eligible_peers(words: &mut Words, n: u64, clock: u64)
     requires { Whole words.old }
     ensures { Holds (set_fanout_eligible_peers n clock (window_of words.old)) words.new }
 {
@@ -112,7 +111,7 @@ pub fn set_fanout_eligible_peers(words: &mut [u64], n: u64, clock: u64)
 }
 
 // `clear_preferred_peer`
-pub fn clear_preferred_peer(words: &mut [u64])
+pub fn clear_preferred_peer(words: &mut Words)
     requires { Whole words.old }
     ensures { Holds (clear_preferred_peer (window_of words.old)) words.new }
 {

@@ -17,13 +17,13 @@ ghost use Rattle.laws.specs.Whole.{Whole, Holds};
 ghost use Rattle.report_words.specs.Report.{releases_of};
 ghost use Rattle.delivery_calls.specs.Receives.{delivered, taken};
 
-use model::{Entry, Hash, Received};
+use model::{Entry, Gone, Hash, Reason, Received, Words};
 
 // ---- credit
 
 // The cold front, then the race. Where a lost hedge let go, no probe is left.
-fn credit_races(words: &mut [u64], gone: &mut [u64], h: Hash, source: u64, clock: u64) -> usize
-    requires { Whole words.old × (Sound clock (window_of words.old) × ((length gone.old ≡ 2304) × (source ≤ max_seat))) }
+fn credit_races(words: &mut Words, gone: &mut Gone, h: Hash, source: u64, clock: u64) -> usize
+    requires { Whole words.old × (Sound clock (window_of words.old)) × (source ≤ max_seat) }
     ensures { (result ≤ 256)
         × (Holds (and_then (resolve_cold_front_delivery h source clock (window_of words.old)) (record_prefix_probe_delivery h source clock)).window words.new)
         × (releases_of result gone.new ≡ (and_then (resolve_cold_front_delivery h source clock (window_of words.old)) (record_prefix_probe_delivery h source clock)).gone) }
@@ -37,14 +37,14 @@ fn credit_races(words: &mut [u64], gone: &mut [u64], h: Hash, source: u64, clock
 
 // `credit_delivery_from`
 pub fn credit_delivery_from(
-    words: &mut [u64],
-    gone: &mut [u64],
+    words: &mut Words,
+    gone: &mut Gone,
     h: Hash,
     source: u64,
     height: Option<u64>,
     clock: u64,
 ) -> usize
-    requires { Whole words.old × (Sound clock (window_of words.old) × ((length gone.old ≡ 2304) × (source ≤ max_seat))) }
+    requires { Whole words.old × (Sound clock (window_of words.old)) × (source ≤ max_seat) }
     ensures { (result ≤ 256)
         × (Holds (credit_delivery_from h source height clock (window_of words.old)).window words.new)
         × (releases_of result gone.new ≡ (credit_delivery_from h source height clock (window_of words.old)).gone) }
@@ -57,14 +57,14 @@ pub fn credit_delivery_from(
 
 // `credit_by`: the source is credited, if there is one.
 fn credit_by(
-    words: &mut [u64],
-    gone: &mut [u64],
+    words: &mut Words,
+    gone: &mut Gone,
     source: Option<u64>,
     h: Hash,
     height: Option<u64>,
     clock: u64,
 ) -> usize
-    requires { Whole words.old × (Sound clock (window_of words.old) × ((length gone.old ≡ 2304) × SoundSource source)) }
+    requires { Whole words.old × (Sound clock (window_of words.old)) × SoundSource source }
     ensures { (result ≤ 256)
         × (Holds (credit_by source h height clock (window_of words.old)).window words.new)
         × (releases_of result gone.new ≡ (credit_by source h height clock (window_of words.old)).gone) }
@@ -78,37 +78,37 @@ fn credit_by(
 // ---- a body
 
 // The delivered entry, where there is one, before the n releases that the credit left. Most often it left none, and nothing has to move.
-fn put_delivered(gone: &mut [u64], front: Option<Entry>, n: usize) -> usize
-    requires { (length gone.old ≡ 2304) × (length (delivered front) + n ≤ 256) }
+fn put_delivered(gone: &mut Gone, front: Option<Entry>, n: usize) -> usize
+    requires { length (delivered front) + n ≤ 256 }
     ensures { releases_of result gone.new ≡ delivered front ++ releases_of n gone.old }
 {
     let Some(e) = front else {
         return n;
     };
     if n == 0 {
-        report_words::put_release(gone, 0, e, 1);
+        report_words::put_release(gone, 0, e, u64::from(Reason::Delivered));
         return 1;
     }
-    let first = report_words::nine(e, 1);
+    let first = report_words::nine(e, u64::from(Reason::Delivered));
     report_first::put_first(gone, &first);
     n + 1
 }
 
 // `taken`: the entry goes, whoever sent its body, and then the source is credited.
 fn take_delivered(
-    words: &mut [u64],
-    gone: &mut [u64],
+    words: &mut Words,
+    gone: &mut Gone,
     h: Hash,
     front: Option<Entry>,
     source: Option<u64>,
     clock: u64,
 ) -> usize
-    requires { Whole words.old × (Sound clock (window_of words.old) × ((length gone.old ≡ 2304) × (SoundSource source × (front ≡ found h (window_of words.old).queue.pending)))) }
+    requires { Whole words.old × (Sound clock (window_of words.old)) × SoundSource source × (front ≡ found h (window_of words.old).queue.pending) }
     ensures { (Holds (taken h source clock (window_of words.old)).window words.new)
         × (releases_of result gone.new ≡ (taken h source clock (window_of words.old)).gone) }
 {
     let height = calls::height_of(front);
-    release::remove_pending(words, gone, h, 1, clock);
+    release::remove_pending(words, gone, h, Reason::Delivered, clock);
     let n = credit_by(words, gone, source, h, height, clock);
     put_delivered(gone, front, n)
 }
@@ -125,14 +125,14 @@ fn received(front: Option<Entry>, places: u64) -> Received
 
 // `mark_received_from`, and what it says.
 pub fn mark_received_from(
-    words: &mut [u64],
-    gone: &mut [u64],
+    words: &mut Words,
+    gone: &mut Gone,
     h: Hash,
     bytes: u64,
     source: Option<u64>,
     clock: u64,
 ) -> Received
-    requires { Whole words.old × (Sound clock (window_of words.old) × ((length gone.old ≡ 2304) × ((bytes ≤ max_body) × (source_ok source ≡ true)))) }
+    requires { Whole words.old × (Sound clock (window_of words.old)) × (bytes ≤ max_body) × (source_ok source ≡ true) }
     ensures { (received_answer result ≡ says (length (mark_received_from h bytes source clock (window_of words.old)).gone) (height_values (found h (window_of words.old).queue.pending)))
         × (length (mark_received_from h bytes source clock (window_of words.old)).gone ≤ 256)
         × (Holds (mark_received_from h bytes source clock (window_of words.old)).window words.new)

@@ -2,84 +2,83 @@
 #![tactic(auto)]
 
 ghost use Rattle.std.specs.Prelude.{◌≡◌, set};
-ghost use Rattle.ledger.specs.Book.{balanced, capped_sum};
+ghost use Rattle.ledger.specs.Book.{balanced, total, none};
 ghost use Rattle.lines.specs.Words.{verdicts};
 
-use ledger::Book;
-use lines::Said;
+use ledger::{Amount, Book};
+use lines::{Entry, Said};
+use model::Refusal;
 use played::act;
-use script::{Plan, Step};
+use script::{Plan, Staged, Step};
 use std::io;
 
 fn put(rt: &impl Print, s: &[u8]) -> io::Result<()> {
     rt.write_all(s)
 }
 
-// What is kept from call to call: the book, the last plan, and how many words of the list of staged hashes are in use.
-#[derive(Clone, Copy)]
+// What is kept from call to call: the words of the window, the two lists that are lent for a plan, the last plan, the hashes that are staged, and the book.
+#[derive(Drop)]
 struct Host {
+    words: [u64; 4096],
+    hashes: [u64; 1024],
+    heights: [u32; 256],
+    plan: Option<Plan>,
+    staged: Staged,
     book: Book,
-    plan: Plan,
-    staged: usize,
 }
 
-// ---- one line a call
+impl Host {
+    fn new() -> Self {
+        Host {
+            words: blank(),
+            hashes: no_hashes(),
+            heights: no_heights(),
+            plan: None,
+            staged: Staged::new(),
+            book: Book::empty(),
+        }
+    }
 
-fn show(rt: &impl Print, words: &[u64], s: Step, p: Plan, said: Said) -> io::Result<()> {
-    let pending = window_queries::pending_len(words);
-    let bytes = window_queries::pending_bytes(words);
-    let share = window_queries::pending_count_for(words, s.peer);
-    let l = script::row_of(s, p, said, pending, bytes, share);
-    put(rt, &l)
-}
+    // One line a call.
+    fn show(&self, rt: &impl Print, s: Step, said: Result<Said, Refusal>) -> io::Result<()> {
+        let pending = window_queries::pending_len(&self.words);
+        let bytes = window_queries::pending_bytes(&self.words);
+        let share = window_queries::pending_count_for(&self.words, s.peer);
+        let l = script::row_of(s, self.plan, said, pending, bytes, share);
+        put(rt, &l)
+    }
 
-// A line of the script: a call is made and shown, and a block that came by it is staged; any other line is written as it stands.
-fn turn(
-    rt: &impl Print,
-    words: &mut [u64],
-    hashes: &mut [u64],
-    heights: &mut [u32],
-    staged: &mut [u64],
-    h: Host,
-    line: &[u8],
-) -> io::Result<Host> {
-    if script::is_call(line) {
+    // A line of the script: a call is made and shown, and a block that came by it is staged; any other line is written as it stands.
+    fn turn(&mut self, rt: &impl Print, line: &[u8]) -> io::Result<()> {
+        if !script::is_call(line) {
+            return put(rt, line);
+        }
         let s = script::step_of(line);
-        let b = h.book;
-        let last = h.plan;
-        let n = script::at_most(h.staged, staged.len());
-        let d = act(words, hashes, heights, &staged[..n], b, last, s);
-        let said = d.said;
-        let book = d.book;
-        let plan = d.plan;
-        show(rt, words, s, plan, said)?;
-        return Ok(Host {
-            book,
-            plan,
-            staged: script::stage(staged, n, s, said),
-        });
+        let d = act(
+            &mut self.words,
+            &mut self.hashes,
+            &mut self.heights,
+            self.staged.words(),
+            self.book,
+            self.plan,
+            s,
+        );
+        self.book = d.book;
+        self.plan = d.plan;
+        self.show(rt, s, d.said)?;
+        self.staged.stage(s, d.said);
+        Ok(())
     }
-    put(rt, line)?;
-    Ok(h)
+
+    fn play(&mut self, rt: &impl Print, text: &[u8]) -> io::Result<()> {
+        for line in script::lines_of(text) {
+            self.turn(rt, line)?;
+        }
+        Ok(())
+    }
 }
 
-fn play(
-    rt: &impl Print,
-    words: &mut [u64],
-    hashes: &mut [u64],
-    heights: &mut [u32],
-    staged: &mut [u64],
-    h: Host,
-    text: &[u8],
-) -> io::Result<Host> {
-    let mut host = h;
-    for line in script::lines_of(text) {
-        host = turn(rt, words, hashes, heights, staged, host, line)?;
-    }
-    Ok(host)
-}
-
-// The script. A call's line has after its colon which call (by its place in lines::words: 0 open, 1 mark_requested, 2 mark_owned_fetch, 3 mark_received_from,
+// The script. A call's line has after its colon which call (by its number: 0 open, 1 mark_requested, 2 mark_owned_fetch, 3 mark_received_from,
 // 4 reject_delivery, 5 expire_pending, 6 requeue_for_retry, 7 release_pending, 8 retire_before, 9 retain_owned_by, 10 observe_blocked, 11 confirm_cold_front_hedge,
 // 12 confirm_prefix_probe, 13 set_fanout_eligible_peers, 14 clear_preferred_peer, 15 next_peer_request); tenths of a second; the peer; the first block and how many; and one
 // number more: the body's bytes, the owner of the blocks, how many blocks are staged, or how many peers there are. What a call does not have is left blank. 15 plans a request
@@ -203,63 +202,59 @@ fn script_text() -> [u8; 3150] {
 // ---- the book at the end, and whether it adds up with what the window says
 
 // A line of the book has 53 bytes and a line end.
-fn entry(rt: &impl Print, k: usize, blocks: u64, bytes: u64) -> io::Result<()> {
-    let l = lines::rows::entry(k, blocks, bytes);
+fn entry(rt: &impl Print, e: Entry, a: Amount) -> io::Result<()> {
+    let l = lines::rows::entry(e, a.blocks, a.bytes);
     put(rt, &l[..54])
 }
 
-fn page(rt: &impl Print, blocks: [u64; 13], bytes: [u64; 13]) -> io::Result<()> {
-    for (k, (in_blocks, in_bytes)) in blocks.iter().zip(bytes.iter()).enumerate() {
-        entry(rt, k, *in_blocks, *in_bytes)?;
+fn page(rt: &impl Print, amounts: [Amount; 13]) -> io::Result<()> {
+    let entries = lines::ENTRIES;
+    for (e, a) in entries.iter().zip(amounts.iter()) {
+        entry(rt, *e, *a)?;
     }
     Ok(())
 }
 
 // What the program says of its book at the end, beside what the window says is pending.
-fn verdict(b: Book, pending: u64, pending_bytes: u64) -> [u8; 74]
-    ensures { result ≡ verdicts (balanced b.blocks (capped_sum 11 b.gone) pending b.bytes (capped_sum 11 b.gone_bytes) pending_bytes) }
+fn verdict(b: Book, pending: Amount) -> [u8; 74]
+    ensures { result ≡ verdicts (balanced b.opened (total 11 b.gone) pending) }
 {
-    let right = ledger::balanced(b, pending, pending_bytes);
-    lines::words::verdict(right)
+    lines::words::verdict(b.balanced(pending))
 }
 
 // What went by reason, with those that lost a hedge left out.
-fn without_hedges(gone: [u64; 11]) -> [u64; 11]
-    ensures { result ≡ set gone 10 0 }
+fn without_hedges(gone: [Amount; 11]) -> [Amount; 11]
+    ensures { result ≡ set gone 10 none }
 {
     let mut l = gone;
-    l[10] = 0;
+    l[10] = ledger::NONE;
     l
 }
 
 // The book and the verdict on it. The same book without one of its entries is judged too, so that both verdicts are seen.
 fn close(rt: &impl Print, words: &[u64], b: Book) -> io::Result<()> {
-    let pending = ledger::value(window_queries::pending_len(words));
-    let bytes = ledger::value(window_queries::pending_bytes(words));
-    let l = b.gone;
-    let m = b.gone_bytes;
+    let pending = Amount {
+        blocks: window_queries::pending_len(words).unwrap_or(0),
+        bytes: window_queries::pending_bytes(words).unwrap_or(0),
+    };
     put(
         rt,
         b"\nThe book                           blocks       bytes\n",
     )?;
-    page(
-        rt,
-        ledger::column(b.blocks, l, pending),
-        ledger::column(b.bytes, m, bytes),
-    )?;
-    let v = verdict(b, pending, bytes);
+    page(rt, b.page(pending))?;
+    let v = verdict(b, pending);
     put(rt, &v)?;
     put(
         rt,
         b"\nThe same book without the block that went in the hedge:\n",
     )?;
+    let l = b.gone;
+    let gone = without_hedges(l);
     let lacking = Book {
-        blocks: b.blocks,
-        bytes: b.bytes,
-        gone: without_hedges(l),
-        gone_bytes: without_hedges(m),
+        opened: b.opened,
+        gone,
     };
-    let w = verdict(lacking, pending, bytes);
+    let w = verdict(lacking, pending);
     put(rt, &w)
 }
 
@@ -276,37 +271,9 @@ fn no_heights() -> [u32; 256] {
     [0; 256]
 }
 
-// 64 hashes may be staged.
-fn none_staged() -> [u64; 256] {
-    [0; 256]
-}
-
 fn main(rt: HostRuntime) -> io::Result<()> {
-    let mut words = blank();
-    let mut hashes = no_hashes();
-    let mut heights = no_heights();
-    let mut staged = none_staged();
+    let mut h = Host::new();
     let text = script_text();
-    let plan = Plan {
-        count: 0,
-        first: 0,
-        last: 0,
-        next: 0,
-    };
-    let h = Host {
-        book: ledger::empty(),
-        plan,
-        staged: 0,
-    };
-    let end = play(
-        &rt,
-        &mut words,
-        &mut hashes,
-        &mut heights,
-        &mut staged,
-        h,
-        &text,
-    )?;
-    let b = end.book;
-    close(&rt, &words, b)
+    h.play(&rt, &text)?;
+    close(&rt, &h.words, h.book)
 }

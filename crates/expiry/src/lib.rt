@@ -2,7 +2,7 @@
 // and with it the latest start that is expired.
 #![tactic(auto)]
 
-ghost use Rattle.std.specs.Prelude.{◌≡◌, ◌+◌, ◌<◌, ◌≤◌, length, get_or, take, drop};
+ghost use Rattle.std.specs.Prelude.{◌≡◌, ◌+◌, ◌<◌, ◌≤◌, get_or, take, drop};
 ghost use Rattle.model.specs.Numbers.{max_clock, max_duration};
 ghost use Rattle.model.specs.Lists.{select};
 ghost use Rattle.model.specs.Records.{lowest};
@@ -14,11 +14,11 @@ ghost use Rattle.laws.specs.Whole.{Whole};
 ghost use Rattle.records.specs.Places.{front_at};
 ghost use Rattle.expiry.specs.Late.{late, LateBy, Seated};
 
-use model::{Entry, at};
+use model::{Entry, Words, at};
 
 // `effective_owner_timeout` by the window's own active count.
-pub fn owner_timeout(words: &[u64]) -> u64
-    requires { (length words.now ≡ 4096) × ((window_of words.now).settings.block_spacing ≤ max_duration) }
+pub fn owner_timeout(words: &Words) -> u64
+    requires { (window_of words.now).settings.block_spacing ≤ max_duration }
     ensures { result ≡ effective_owner_timeout (active (window_of words.now)) (window_of words.now) }
 {
     let b = state::get_settings(words);
@@ -27,8 +27,8 @@ pub fn owner_timeout(words: &[u64]) -> u64
 }
 
 // `owner_download_expired`
-pub fn owner_expired(words: &[u64], owner: usize, clock: u64) -> bool
-    requires { (length words.now ≡ 4096) × ((window_of words.now).settings.block_spacing ≤ max_duration) × (owner < 256) × (clock ≤ max_clock) }
+pub fn owner_expired(words: &Words, owner: usize, clock: u64) -> bool
+    requires { ((window_of words.now).settings.block_spacing ≤ max_duration) × (owner < 256) × (clock ≤ max_clock) }
     ensures { result ≡ owner_download_expired owner (active (window_of words.now)) clock (window_of words.now) }
 {
     let timeout = owner_timeout(words);
@@ -37,8 +37,8 @@ pub fn owner_expired(words: &[u64], owner: usize, clock: u64) -> bool
 }
 
 // `late`, by the limit of a moment and a timeout: whether the owner of the record at i is expired.
-fn is_late(words: &[u64], i: usize, limit: u64) -> bool
-    requires { (length words.now ≡ 4096) × (i < 256) × (get_or words.now (i + 1024) 0 < 256) }
+fn is_late(words: &Words, i: usize, limit: u64) -> bool
+    requires { (i < 256) × (get_or words.now (i + 1024) 0 < 256) }
     ensures { LateBy limit (decode words.now).starts (entry_at (drop i words.now)) result }
 {
     let owner = words[i + at::OWNERS] as usize;
@@ -47,8 +47,8 @@ fn is_late(words: &[u64], i: usize, limit: u64) -> bool
 }
 
 // The place of the lowest record of an expired owner, the first among equals; `count` where there is none. From the last record to the first.
-fn lowest_late(words: &[u64], count: usize, timeout: u64, clock: u64) -> usize
-    requires { (length words.now ≡ 4096) × (count ≤ 256) × (clock ≤ max_clock) × Seated count words.now }
+fn lowest_late(words: &Words, count: usize, timeout: u64, clock: u64) -> usize
+    requires { (count ≤ 256) × (clock ≤ max_clock) × Seated count words.now }
     ensures { lowest (select (late clock timeout (decode words.now).starts) (take count (decode words.now).entries)) ≡ front_at count result (decode words.now).entries }
 {
     let limit = time::expiry_limit(clock, timeout);
@@ -67,16 +67,13 @@ fn lowest_late(words: &[u64], count: usize, timeout: u64, clock: u64) -> usize
 }
 
 // `lowest_expired`
-pub fn lowest_expired(words: &[u64], clock: u64) -> Option<Entry>
+#[tactic(auto, using(crate::specs::Late::expired_is, state_queue::specs::Steps::entry_is), unfolding(records::specs::Places::front_at))]
+pub fn lowest_expired(words: &Words, clock: u64) -> Option<Entry>
     requires { Whole words.now × Sound clock (window_of words.now) }
     ensures { result ≡ lowest_expired clock (window_of words.now) }
 {
     let n = state_queue::pending_count(words);
     let timeout = owner_timeout(words);
     let at = lowest_late(words, n, timeout, clock);
-    if at < n {
-        let e = state_queue::entry_at(words, at);
-        return Some(e);
-    }
-    None
+    (at < n).then(|| state_queue::entry_at(words, at))
 }

@@ -11,10 +11,10 @@ ghost use Rattle.laws.specs.RequestsKept.{Asking};
 ghost use Rattle.laws.specs.Sound.{Sound};
 ghost use Rattle.laws.specs.Whole.{Whole, Holds};
 
-use model::{Fetch, Hash};
+use model::{Fetch, Hash, Words};
 
 // `fetched` where the hash is asked for: a request of one entry, over which the attempted owner is kept.
-fn ask(words: &mut [u64], owner: u64, h: Hash, height: u64, clock: u64)
+fn ask(words: &mut Words, owner: u64, h: Hash, height: u64, clock: u64)
     requires { Whole words.old × (Sound clock (window_of words.old) × (Asking h (window_of words.old) × (owner ≤ max_seat))) }
     ensures { Holds (fetched asked owner h height clock (window_of words.old)) words.new }
 {
@@ -27,7 +27,7 @@ fn ask(words: &mut [u64], owner: u64, h: Hash, height: u64, clock: u64)
 
 // `mark_owned_fetch`, and what it says: held, staged, asked or no capacity.
 pub fn mark_owned_fetch(
-    words: &mut [u64],
+    words: &mut Words,
     owner: u64,
     h: Hash,
     height: u32,

@@ -1,7 +1,8 @@
 -- Laws about the model's `Numbers`: lesser and greater, rounding up, times that may be missing. Assumes nothing.
-use Rattle.std.specs.Prelude.{◌≡◌, refl, ◌⊎◌, Bool, true, false, cond, ◌&&◌, ℕ, suc, ◌+◌, ◌-◌, ◌*◌, ◌/◌, ◌≤◌, ◌<◌, leb}
+use Rattle.std.specs.Prelude.{◌≡◌, refl, ◌⊎◌, Bool, true, false, cond, ◌&&◌, ℕ, suc, ◌+◌, ◌-◌, ◌*◌, ◌/◌, ◌%◌, ◌≤◌, ◌<◌, leb, min, max}
 use Rattle.std.proofs.Common.{sym, ap, ◌∙◌, inl, inr, mul-le-mul, arith, le-leb, leb-true, leb-false, ne_eqb}
-use Rattle.std.proofs.Math.Nat.{add-div_right, div-eq_of_lt}
+use Rattle.std.proofs.Math.Nat.{add-div_right, div-eq_of_lt, div-eq_of_lt-le, add-mul, one-mul}
+use Rattle.std.proofs.lemmas.Grind.{div_ceil_times}
 use Rattle.model.specs.Numbers.{lesser, greater, div_ceil, max_height, next_height, present, age}
 
 -- ---- tests
@@ -103,6 +104,22 @@ greater_le a b c p q = elim (both (leb a b)) [
   | inr t ↦ rw t p
 ]
 
+-- ---- the library's names
+
+pub min_is : (a b : ℕ) → min a b ≡ lesser a b
+unfolding lesser
+min_is a b = elim (both (leb a b)) [
+  | inl t ↦ rw t (omega (arith, leb-true a b t))
+  | inr t ↦ rw t (omega (arith, leb-false a b t))
+]
+
+pub max_is : (a b : ℕ) → max a b ≡ greater a b
+unfolding greater
+max_is a b = elim (both (leb a b)) [
+  | inl t ↦ rw t (omega (arith, leb-true a b t))
+  | inr t ↦ rw t (omega (arith, leb-false a b t))
+]
+
 -- ---- rounding up, without the sum that could wrap
 
 pub div_ceil_zero : (b : ℕ) → 0 < b → div_ceil 0 b ≡ 0
@@ -114,6 +131,13 @@ unfolding div_ceil
 div_ceil_pos a b p h =
     let e : a + (b - 1) ≡ a - 1 + b = omega arith in
     ap (λ (n : ℕ). n / b) e ∙ add-div_right (a - 1) h
+
+pub div_ceil_is : (a b : ℕ) → 0 < b → a / b + min 1 (a % b) ≡ div_ceil a b
+unfolding div_ceil
+div_ceil_is a b p =
+    let k = a / b + min 1 (a % b) in
+    let t = div_ceil_times a b p in
+    sym (div-eq_of_lt-le b (omega (arith, t.1)) (omega (arith, t.0, add-mul k 1 b, one-mul b)))
 
 -- ---- clocks
 

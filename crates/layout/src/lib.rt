@@ -4,25 +4,25 @@
 
 ghost use Rattle.std.specs.Prelude.{◌≡◌, ◌∷◌, [], ◌+◌, ◌<◌, ◌≤◌, length};
 ghost use Rattle.model.specs.Pace.{pace};
-ghost use Rattle.model.specs.Layout.{decode, word, hash_at, settings_of, source_of, settings_words, flag_word, source_word};
-ghost use Rattle.model.specs.Places.{head_max_pending_blocks, head_fanout_eligible, head_front_mean, head_front_advance, head_stall_timeout, head_preferred, head_attempted};
+ghost use Rattle.model.specs.Layout.{decode, word, hash_at, settings_of, source_of, settings_words, source_word};
+ghost use Rattle.model.specs.Places.{head_max_pending_blocks, head_fanout_eligible, head_front_mean, head_front_advance, head_stall_timeout};
 ghost use Rattle.laws.specs.Tables.{with_words};
 ghost use Rattle.layout.specs.Head.{fanout_of, fanout_list, pace_list};
 
-use model::{Fanout, Hash, Pace, Settings, at, head, sizes};
+use model::{Fanout, Hash, Pace, Settings, Words, at, head, sizes};
 
 // ---- single words
 
-pub fn word_of(words: &[u64], k: usize) -> u64
-    requires { (length words.now ≡ 4096) × (k < 512) }
+pub fn word_of(words: &Words, k: usize) -> u64
+    requires { k < 512 }
     ensures { result ≡ word k (decode words.now) }
 {
     words[at::HEAD + k]
 }
 
 // Some words written at a place of the head.
-pub fn store_at(words: &mut [u64], k: usize, list: &[u64])
-    requires { (length words.old ≡ 4096) × (k + length list.now ≤ 512) }
+pub fn store_at(words: &mut Words, k: usize, list: &[u64])
+    requires { k + length list.now ≤ 512 }
     ensures { decode words.new ≡ with_words k list.now (decode words.old) }
 {
     let a = at::HEAD + k;
@@ -30,8 +30,8 @@ pub fn store_at(words: &mut [u64], k: usize, list: &[u64])
     column::copy_over(&mut words[a..e], list);
 }
 
-pub fn set_word(words: &mut [u64], k: usize, value: u64)
-    requires { (length words.old ≡ 4096) × (k < 512) }
+pub fn set_word(words: &mut Words, k: usize, value: u64)
+    requires { k < 512 }
     ensures { decode words.new ≡ with_words k (value ∷ []) (decode words.old) }
 {
     let l = [value];
@@ -39,8 +39,8 @@ pub fn set_word(words: &mut [u64], k: usize, value: u64)
 }
 
 // `hash_at`
-pub fn hash_of(words: &[u64], k: usize) -> Hash
-    requires { (length words.now ≡ 4096) × (k + 4 ≤ 512) }
+pub fn hash_of(words: &Words, k: usize) -> Hash
+    requires { k + 4 ≤ 512 }
     ensures { result ≡ hash_at k (decode words.now) }
 {
     let a = at::HEAD + k;
@@ -54,8 +54,7 @@ pub fn hash_of(words: &[u64], k: usize) -> Hash
 
 // ---- settings, fan-out, pace
 
-pub fn load_settings(words: &[u64]) -> Settings
-    requires { length words.now ≡ 4096 }
+pub fn load_settings(words: &Words) -> Settings
     ensures { result ≡ settings_of (decode words.now) }
 {
     Settings {
@@ -93,16 +92,14 @@ fn settings_list(b: Settings) -> [u64; sizes::SETTINGS_WORDS]
     ]
 }
 
-pub fn store_settings(words: &mut [u64], b: Settings)
-    requires { length words.old ≡ 4096 }
+pub fn store_settings(words: &mut Words, b: Settings)
     ensures { decode words.new ≡ with_words head_max_pending_blocks (settings_words b) (decode words.old) }
 {
     let l = settings_list(b);
     store_at(words, head::MAX_PENDING_BLOCKS, &l);
 }
 
-pub fn load_fanout(words: &[u64]) -> Fanout
-    requires { length words.now ≡ 4096 }
+pub fn load_fanout(words: &Words) -> Fanout
     ensures { result ≡ fanout_of (decode words.now) }
 {
     let engaged = words[at::FANOUT_ENGAGED] == 1;
@@ -112,27 +109,14 @@ pub fn load_fanout(words: &[u64]) -> Fanout
     }
 }
 
-// `flag_word`
-fn flag_word(b: bool) -> u64
-    ensures { result ≡ flag_word b }
-{
-    if b {
-        return 1;
-    }
-    0
-}
-
-pub fn store_fanout(words: &mut [u64], f: Fanout)
-    requires { length words.old ≡ 4096 }
+pub fn store_fanout(words: &mut Words, f: Fanout)
     ensures { decode words.new ≡ with_words head_fanout_eligible (fanout_list f) (decode words.old) }
 {
-    let b = flag_word(f.engaged);
-    let l = [f.eligible, b];
+    let l = [f.eligible, u64::from(f.engaged)];
     store_at(words, head::FANOUT_ELIGIBLE, &l);
 }
 
-pub fn load_pace(words: &[u64]) -> Pace
-    requires { length words.now ≡ 4096 }
+pub fn load_pace(words: &Words) -> Pace
     ensures { result ≡ pace (word head_front_mean (decode words.now)) (word head_front_advance (decode words.now)) (word head_stall_timeout (decode words.now)) }
 {
     Pace {
@@ -142,8 +126,7 @@ pub fn load_pace(words: &[u64]) -> Pace
     }
 }
 
-pub fn store_pace(words: &mut [u64], p: Pace)
-    requires { length words.old ≡ 4096 }
+pub fn store_pace(words: &mut Words, p: Pace)
     ensures { decode words.new ≡ with_words head_front_mean (pace_list p) (decode words.old) }
 {
     let l = [p.mean, p.advance, p.wait];
@@ -164,40 +147,20 @@ fn source_word(s: Option<u64>) -> u64
     requires { source_word s ≤ 256 }
     ensures { result ≡ source_word s }
 {
-    match s {
-        None => 0,
-        Some(seat) => seat + 1,
-    }
+    s.map_or(0, |seat| seat + 1)
 }
 
-pub fn load_preferred(words: &[u64]) -> Option<u64>
-    requires { length words.now ≡ 4096 }
-    ensures { result ≡ source_of (word head_preferred (decode words.now)) }
+// A seat at a place of the head.
+pub fn load_source(words: &Words, k: usize) -> Option<u64>
+    requires { k < 512 }
+    ensures { result ≡ source_of (word k (decode words.now)) }
 {
-    let s = word_of(words, head::PREFERRED);
-    source_of(s)
+    source_of(word_of(words, k))
 }
 
-pub fn store_preferred(words: &mut [u64], s: Option<u64>)
-    requires { (length words.old ≡ 4096) × (source_word s ≤ 256) }
-    ensures { decode words.new ≡ with_words head_preferred (source_word s ∷ []) (decode words.old) }
+pub fn store_source(words: &mut Words, k: usize, s: Option<u64>)
+    requires { (k < 512) × (source_word s ≤ 256) }
+    ensures { decode words.new ≡ with_words k (source_word s ∷ []) (decode words.old) }
 {
-    let v = source_word(s);
-    set_word(words, head::PREFERRED, v);
-}
-
-pub fn load_attempted(words: &[u64]) -> Option<u64>
-    requires { length words.now ≡ 4096 }
-    ensures { result ≡ source_of (word head_attempted (decode words.now)) }
-{
-    let s = word_of(words, head::ATTEMPTED);
-    source_of(s)
-}
-
-pub fn store_attempted(words: &mut [u64], s: Option<u64>)
-    requires { (length words.old ≡ 4096) × (source_word s ≤ 256) }
-    ensures { decode words.new ≡ with_words head_attempted (source_word s ∷ []) (decode words.old) }
-{
-    let v = source_word(s);
-    set_word(words, head::ATTEMPTED, v);
+    set_word(words, k, source_word(s));
 }

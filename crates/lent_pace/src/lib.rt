@@ -1,11 +1,10 @@
-// SPECIFICATION 6.2: the pace record, lent. Three thin functions alter it, each by a rule of `pace`; `changed` lends it to one of them, for callers
-// that have it by value.
+// SPECIFICATION 6.2: the pace record, lent. Three thin functions alter it, each by a rule of `pace`; three more lend it to one of them, for callers that
+// have it by value. These three are the one way in which the calls change the pace.
 #![tactic(auto)]
 
 ghost use Rattle.std.specs.Prelude.{◌≡◌, suc, ◌≤◌};
 ghost use Rattle.model.specs.Numbers.{max_clock, max_duration, max_front_mean};
 ghost use Rattle.model.specs.Pace.{front_recorded, wait_widened, pace_opened};
-ghost use Rattle.lent_pace.specs.Turns.{asked, changed_by};
 
 use model::{Pace, Settings};
 
@@ -36,7 +35,8 @@ pub fn set_at_opening(p: &mut Pace, b: Settings)
 
 // ---- the record by value: each holds it in a local, and lends that
 
-fn lend_at_front(p: Pace, b: Settings, clock: u64) -> Pace
+// `front_recorded`
+pub fn lend_at_front(p: Pace, b: Settings, clock: u64) -> Pace
     requires { (clock ≤ max_clock) × (p.mean ≤ suc max_front_mean) × (p.wait ≤ max_duration) }
     ensures { result ≡ front_recorded b clock p }
 {
@@ -45,7 +45,8 @@ fn lend_at_front(p: Pace, b: Settings, clock: u64) -> Pace
     recorded
 }
 
-fn lend_at_blame(p: Pace, b: Settings) -> Pace
+// `wait_widened`
+pub fn lend_at_blame(p: Pace, b: Settings) -> Pace
     requires { (p.mean ≤ suc max_front_mean) × (p.wait ≤ max_duration) × (b.stall_timeout_max ≤ max_duration) }
     ensures { result ≡ wait_widened b p }
 {
@@ -54,30 +55,11 @@ fn lend_at_blame(p: Pace, b: Settings) -> Pace
     widened
 }
 
-fn lend_at_opening(p: Pace, b: Settings) -> Pace
+// `pace_opened`
+pub fn lend_at_opening(p: Pace, b: Settings) -> Pace
     ensures { result ≡ pace_opened b }
 {
     let mut opened = p;
     set_at_opening(&mut opened, b);
     opened
-}
-
-// What changes a pace.
-#[derive(Clone, Copy)]
-pub enum Turn {
-    Front,
-    Blame,
-    Opening,
-}
-
-// `changed_by`: the one way in which the calls change the pace.
-pub fn changed(turn: Turn, p: Pace, b: Settings, clock: u64) -> Pace
-    requires { asked turn b clock p }
-    ensures { result ≡ changed_by turn b clock p }
-{
-    match turn {
-        Turn::Front => lend_at_front(p, b, clock),
-        Turn::Blame => lend_at_blame(p, b),
-        Turn::Opening => lend_at_opening(p, b),
-    }
 }

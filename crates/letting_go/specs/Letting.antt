@@ -1,12 +1,12 @@
 -- What every call that lets go promises, before its report is written: generic over the call. Assumes nothing.
-use Rattle.std.specs.Prelude.{◌≡◌, refl, Bool, true, false, not, ◌||◌, List, [], ◌∷◌, ◌++◌, ℕ, zero, suc, ◌*◌, ◌≤◌, ◌<◌, length, drop, ltb, Option, None, Some, Result, IsErrAnd}
+use Rattle.std.specs.Prelude.{◌≡◌, refl, Bool, true, not, ◌||◌, List, ◌++◌, ℕ, ◌*◌, ◌≤◌, length, drop, ltb, Option, None, Some, Result, IsErrAnd}
 use Rattle.std.proofs.Math.Path.{sym, ap}
 use Rattle.std.proofs.Common.{subst, ◌∙◌, inl, inr}
 use native.Mathlib.Omega.{arith}
 use borrow.Author.Tests.{leb-true}
 use Rattle.model.specs.Numbers.{read_clock, present}
 use Rattle.model.specs.Window.{Window, with_clock, with_cold, with_preferred, with_attempted}
-use Rattle.model.specs.Layout.{encode, window_of}
+use Rattle.model.specs.Layout.{window_of}
 use Rattle.model.specs.Refusals.{Change, changes, Moment, timeless, at, checks, report_ok, window_refusal}
 use Rattle.model.specs.Perform.{Answer, refused, says, change, moment_of, changed, words_after, gone_after, answer_after, perform}
 use Rattle.model.specs.Records.{found}
@@ -20,7 +20,7 @@ use Rattle.model.specs.declared.Hash.{Hash}
 use Rattle.model.specs.declared.Release.{Release}
 use Rattle.model.specs.declared.PrefixProbe.{PrefixProbe}
 use Rattle.laws.specs.Numbers.{both}
-use Rattle.laws.specs.Whole.{Whole, Holds}
+use Rattle.laws.specs.Whole.{Holds}
 use Rattle.refusals.specs.Outcomes.{leaves_refused, leaves_changed, performs, admitted, clock_set}
 use Rattle.refusals.specs.Passed.{number_some, says_refused}
 use Rattle.report_words.specs.Report.{releases_of, length_releases}
@@ -94,6 +94,10 @@ module _ (size : ℕ) (x : Change) (ws : List ℕ) (room n : ℕ) (e : n ≡ win
           (subst (λ (t : ℕ). releases_of k gone ≡ (change x t (window_of ws)).gone) back g)
           a
           (subst (λ (t : ℕ). a ≡ says k (change x t (window_of ws)).values) back q)
+
+-- of words taken as an array
+pub lets_in : (size : ℕ) (x : Change) (ws array : List ℕ) (room : ℕ) (a : Answer) (ws' gone : List ℕ) → array ≡ ws → LetsGo size x array room a ws' gone → LetsGo size x ws room a ws' gone
+lets_in size x ws array room a ws' gone e h = subst (λ (y : List ℕ). LetsGo size x y room a ws' gone) e h
 
 -- a refusal that `?` hands on
 module _ {A : Type 0} (r : Result A Refusal) (e : Refusal) (told : IsErrAnd r (λ f. f ≡ e)) where

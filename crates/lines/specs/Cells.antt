@@ -1,6 +1,6 @@
 -- Numbers as text, set right and grouped by thousands.
-use Rattle.std.specs.Prelude.{◌≡◌, refl, Bool, true, false, cond, List, [], ◌∷◌, ℕ, zero, suc, ◌+◌, ◌-◌, ◌/◌, ◌%◌, eqb, length, get_or, set, drop, replicate}
-use Prim.Native.Char.{Char, code}
+use Rattle.std.specs.Prelude.{◌≡◌, refl, cond, Option, None, Some, List, [], ◌∷◌, ℕ, zero, suc, ◌+◌, ◌-◌, ◌/◌, ◌%◌, eqb, length, get_or, set, drop, replicate}
+use Prim.Native.Char.{code}
 use Prim.Native.String.{String, [] as []ˢ, ◌∷◌ as ◌∷ˢ◌}
 
 -- the bytes of a quoted text
@@ -32,13 +32,13 @@ unfoldable pub grouped : ℕ → List ℕ
 grouped n = filled 26 n
 
 -- A number, or blanks in its place.
-abbrev pub cell : Bool → ℕ → List ℕ
-cell true n = grouped n
-cell false n = replicate 26 32
+abbrev pub cell : Option ℕ → List ℕ
+cell (Some n) = grouped n
+cell None = replicate 26 32
 
 -- In a column of so many places, at most 26: the last ones.
-abbrev pub column : ℕ → Bool → ℕ → List ℕ
-column width is_shown n = drop (26 - width) (cell is_shown n)
+abbrev pub column : ℕ → Option ℕ → List ℕ
+column width n = drop (26 - width) (cell n)
 
 -- Bytes put in a line from a place on, one after the other.
 unfoldable pub put_first : ℕ → ℕ → List ℕ → List ℕ → List ℕ
@@ -49,14 +49,14 @@ unfoldable pub put : ℕ → List ℕ → List ℕ → List ℕ
 put place s line = put_first (length s) place s line
 
 -- by computation
-million : column 10 true 1234567 ≡ bytes " 1,234,567"
+million : column 10 (Some 1234567) ≡ bytes " 1,234,567"
 unfolding grouped filled rest_after
 million = refl
 
-nought : column 3 true 0 ≡ bytes "  0"
+nought : column 3 (Some 0) ≡ bytes "  0"
 unfolding grouped filled rest_after
 nought = refl
 
-thousand : column 6 true 1000 ≡ bytes " 1,000"
+thousand : column 6 (Some 1000) ≡ bytes " 1,000"
 unfolding grouped filled rest_after
 thousand = refl

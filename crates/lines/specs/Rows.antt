@@ -1,38 +1,49 @@
 -- The demo's lines as bytes: 80 and a line end.
-use Rattle.std.specs.Prelude.{true, cond, List, [], ◌∷◌, ℕ, ◌/◌, ◌%◌, get_or, set, replicate}
-use Rattle.model.specs.Numbers.{lesser}
-use Rattle.lines.specs.Cells.{column, put}
-use Rattle.lines.specs.Words.{calls, heads, tails, refusals, entries}
+use Rattle.std.specs.Prelude.{List, [], ◌∷◌, ℕ, ◌/◌, ◌%◌, set, replicate, Option, None, Some, Result, Ok, Err}
+use Rattle.model.specs.Says.{number}
+use Rattle.model.specs.declared.Refusal.{Refusal}
+use Rattle.lines.specs.Cells.{bytes, column, put}
+use Rattle.lines.specs.Words.{name, head_word, last_word, refusal_word, entry_words}
 use Rattle.lines.specs.declared.Said.{Said}
 use Rattle.lines.specs.declared.Call.{Call}
+use Rattle.lines.specs.declared.Made.{Made}
 use Rattle.lines.specs.declared.After.{After}
+use Rattle.lines.specs.declared.Entry.{Entry}
 
 -- tenths of a second, and the name of the call
-unfoldable pub begun : ℕ → ℕ → List ℕ
+unfoldable pub begun : ℕ → Call → List ℕ
 begun time call =
-    put 8 (get_or calls (lesser call 15) [])
+    put 8 (name call)
     (put 5 (46 ∷ [])
-    (put 6 (column 1 true (time % 10))
-    (put 0 (column 5 true (time / 10)) (set (replicate 81 32) 80 10))))
+    (put 6 (column 1 (Some (time % 10)))
+    (put 0 (column 5 (Some (time / 10))) (set (replicate 81 32) 80 10))))
 
 -- with whom, and which blocks
-unfoldable pub asked : Call → List ℕ → List ℕ
-asked c line =
-    put 39 (column 3 c.ranged c.last) (put 36 (column 3 c.blocks c.first) (put 33 (column 3 c.peered c.peer) line))
+unfoldable pub asked : Made → List ℕ → List ℕ
+asked m line = put 39 (column 3 m.last) (put 36 (column 3 m.first) (put 33 (column 3 m.peer) line))
 
--- the answer
-unfoldable pub answered : Said → List ℕ → List ℕ
-answered s line =
-    put 54 (cond s.refuses (get_or refusals (lesser s.tail 12) []) (get_or tails (lesser s.tail 18) [])) (put 51 (column 3 s.counts s.number) (put 43 (get_or heads (lesser s.head 15) []) line))
+-- a head, a number or none, and a tail
+unfoldable pub sentence : List ℕ → Option ℕ → List ℕ → List ℕ → List ℕ
+sentence head n tail line = put 54 tail (put 51 (column 3 n) (put 43 head line))
+
+-- the answer; of a refused call the refusal's number, and why it is one
+abbrev pub answered : Result Said Refusal → List ℕ → List ℕ
+answered (Err r) line = sentence (bytes "refused ") (Some (number r)) (refusal_word r) line
+answered (Ok s) line = sentence (head_word s.head) s.number (last_word s.tail) line
+
+-- the peer's share, where there is a peer
+abbrev pub share_of : Option ℕ → ℕ → Option ℕ
+share_of None share = None
+share_of (Some peer) share = Some share
 
 -- the window after the call
-unfoldable pub left : Call → After → List ℕ → List ℕ
-left c a line = put 70 (column 10 true a.bytes) (put 67 (column 3 true a.pending) (put 65 (column 2 c.peered a.share) line))
+unfoldable pub left : Made → After → List ℕ → List ℕ
+left m a line = put 70 (column 10 (Some a.bytes)) (put 67 (column 3 (Some a.pending)) (put 65 (column 2 (share_of m.peer a.share)) line))
 
-unfoldable pub row : Call → Said → After → List ℕ
-row c s a = left c a (answered s (asked c (begun c.time c.name)))
+unfoldable pub row : Made → Result Said Refusal → After → List ℕ
+row m s a = left m a (answered s (asked m (begun m.time m.call)))
 
 -- a line of the book: blocks and bytes
-unfoldable pub entry : ℕ → ℕ → ℕ → List ℕ
-entry k blocks in_bytes =
-    put 41 (column 12 true in_bytes) (put 33 (column 8 true blocks) (put 0 (get_or entries (lesser k 12) []) (set (replicate 81 32) 53 10)))
+unfoldable pub entry : Entry → ℕ → ℕ → List ℕ
+entry e blocks in_bytes =
+    put 41 (column 12 (Some in_bytes)) (put 33 (column 8 (Some blocks)) (put 0 (entry_words e) (set (replicate 81 32) 53 10)))

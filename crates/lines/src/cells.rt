@@ -44,13 +44,13 @@ pub fn grouped(n: u64) -> [u8; 26]
     l
 }
 
-fn cell(shown: bool, n: u64) -> [u8; 26]
-    ensures { result ≡ cell shown n }
+fn cell(n: Option<u64>) -> [u8; 26]
+    ensures { result ≡ cell n }
 {
-    if shown {
-        return grouped(n);
+    match n {
+        Some(n) => grouped(n),
+        None => [b' '; 26],
     }
-    [b' '; 26]
 }
 
 // The bytes from a place on.
@@ -63,17 +63,11 @@ pub(crate) fn put(line: [u8; 81], place: usize, s: &[u8]) -> [u8; 81]
     l
 }
 
-// A number in a column of that width, from a place on.
-pub(crate) fn put_number(
-    line: [u8; 81],
-    place: usize,
-    width: usize,
-    shown: bool,
-    n: u64,
-) -> [u8; 81]
+// A number, or blanks, in a column of that width, from a place on.
+pub(crate) fn put_number(line: [u8; 81], place: usize, width: usize, n: Option<u64>) -> [u8; 81]
     requires { (width ≤ 26) × (place + width ≤ 81) }
-    ensures { result ≡ put place (column width shown n) line }
+    ensures { result ≡ put place (column width n) line }
 {
-    let l = cell(shown, n);
+    let l = cell(n);
     put(line, place, &l[26 - width..])
 }

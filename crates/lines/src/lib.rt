@@ -5,17 +5,37 @@ pub mod cells;
 pub mod rows;
 pub mod words;
 
-// A call: tenths of a second, its place among the names, and the peer and the blocks where it has any.
+use model::Reason;
+
+// The calls of the window, by their names.
 #[derive(Clone, Copy)]
-pub struct Call {
+pub enum Call {
+    Open,
+    MarkRequested,
+    MarkOwnedFetch,
+    MarkReceivedFrom,
+    RejectDelivery,
+    ExpirePending,
+    RequeueForRetry,
+    ReleasePending,
+    RetireBefore,
+    RetainOwnedBy,
+    ObserveBlocked,
+    ConfirmColdFrontHedge,
+    ConfirmPrefixProbe,
+    SetFanoutEligiblePeers,
+    ClearPreferredPeer,
+    NextPeerRequest,
+}
+
+// A call that was made: tenths of a second, which call, its peer and its first block where it has any, and the last of several blocks.
+#[derive(Clone, Copy)]
+pub struct Made {
     pub time: u64,
-    pub name: usize,
-    pub peered: bool,
-    pub peer: u64,
-    pub blocks: bool,
-    pub first: u64,
-    pub ranged: bool,
-    pub last: u64,
+    pub call: Call,
+    pub peer: Option<u64>,
+    pub first: Option<u64>,
+    pub last: Option<u64>,
 }
 
 // The window after it: blocks and bytes pending, and how many of the blocks are with the peer.
@@ -26,12 +46,70 @@ pub struct After {
     pub share: u64,
 }
 
-// An answer: a head, a number or none, and a tail, by their places in the tables of words. A refusal's tail has a table of its own.
+// How an answer begins.
+#[derive(Clone, Copy)]
+pub enum Head {
+    Done,
+    Asked,
+    Held,
+    Staged,
+    NoRoom,
+    LetGo,
+    GotIt,
+    GotItAnd,
+    Unasked,
+    NoBlame,
+    Blames,
+    Evicts,
+    Hedges,
+    Planned,
+    NoPlan,
+}
+
+// How it ends: with a reason, or with another word.
+#[derive(Clone, Copy)]
+pub enum Tail {
+    Why(Reason),
+    IsPending,
+    RoomLeft,
+    Full,
+    Discarded,
+    Staller,
+    Silent,
+    Staged,
+    ColdFront,
+}
+
+// What is said of an accepted call. A refused one has its refusal: an answer is a `Result<Said, Refusal>`.
 #[derive(Clone, Copy)]
 pub struct Said {
-    pub head: usize,
-    pub counts: bool,
-    pub number: u64,
-    pub refuses: bool,
-    pub tail: u64,
+    pub head: Head,
+    pub number: Option<u64>,
+    pub tail: Option<Tail>,
 }
+
+// The lines of the book.
+#[derive(Clone, Copy)]
+pub enum Entry {
+    Opened,
+    LetGo(Reason),
+    LetGoInAll,
+    Pending,
+}
+
+// In the order of the page.
+pub const ENTRIES: [Entry; 13] = [
+    Entry::Opened,
+    Entry::LetGo(Reason::Delivered),
+    Entry::LetGo(Reason::OwnerRejection),
+    Entry::LetGo(Reason::Retry),
+    Entry::LetGo(Reason::Released),
+    Entry::LetGo(Reason::Retired),
+    Entry::LetGo(Reason::OwnerTimeOut),
+    Entry::LetGo(Reason::PassedOver),
+    Entry::LetGo(Reason::SeatLost),
+    Entry::LetGo(Reason::PrefixRaceLost),
+    Entry::LetGo(Reason::HedgeLost),
+    Entry::LetGoInAll,
+    Entry::Pending,
+];

@@ -1,77 +1,90 @@
 // One line a call: when, what, with whom, which blocks, the answer, and the window after it. 80 bytes and a line end.
-ghost use Rattle.std.specs.Prelude.{◌≡◌, cond, [], get_or};
-ghost use Rattle.model.specs.Numbers.{lesser};
-ghost use Rattle.lines.specs.Words.{tails, refusals};
-ghost use Rattle.lines.specs.Rows.{begun, asked, answered, left, row, entry};
+ghost use Rattle.std.specs.Prelude.{◌≡◌};
+ghost use Rattle.lines.specs.Rows.{begun, asked, sentence, answered, share_of, left, row, entry};
 
 use crate::cells::{put, put_number};
-use crate::words::{entry_of, head_of, name_of, refusal_of, tail_of};
-use crate::{After, Call, Said};
+use crate::words::{last_word, refusal_word};
+use crate::{After, Call, Entry, Made, Said};
+use model::Refusal;
 
-fn begun(time: u64, name: usize) -> [u8; 81]
-    ensures { result ≡ begun time name }
+#[tactic(auto, unfolding(crate::specs::Rows::begun))]
+fn begun(time: u64, call: Call) -> [u8; 81]
+    ensures { result ≡ begun time call }
 {
     let mut l: [u8; 81] = [b' '; 81];
     l[80] = b'\n';
-    let a = put_number(l, 0, 5, true, time / 10);
-    let b = put_number(a, 6, 1, true, time % 10);
+    let a = put_number(l, 0, 5, Some(time / 10));
+    let b = put_number(a, 6, 1, Some(time % 10));
     let c = put(b, 5, b".");
-    let w = name_of(name);
+    let w = call.name();
     put(c, 8, &w)
 }
 
-fn asked(c: Call, line: [u8; 81]) -> [u8; 81]
-    ensures { result ≡ asked c line }
+#[tactic(auto, unfolding(crate::specs::Rows::asked))]
+fn asked(m: Made, line: [u8; 81]) -> [u8; 81]
+    ensures { result ≡ asked m line }
 {
-    let a = put_number(line, 33, 3, c.peered, c.peer);
-    let b = put_number(a, 36, 3, c.blocks, c.first);
-    put_number(b, 39, 3, c.ranged, c.last)
+    let a = put_number(line, 33, 3, m.peer);
+    let b = put_number(a, 36, 3, m.first);
+    put_number(b, 39, 3, m.last)
 }
 
-fn last_words(refuses: bool, k: usize) -> [u8; 11]
-    ensures { result ≡ cond refuses (get_or refusals (lesser k 12) []) (get_or tails (lesser k 18) []) }
+// A head, a number or none, and a tail.
+#[tactic(auto, unfolding(crate::specs::Rows::sentence))]
+fn sentence(head: [u8; 8], n: Option<u64>, tail: [u8; 11], line: [u8; 81]) -> [u8; 81]
+    ensures { result ≡ sentence head n tail line }
 {
-    if refuses {
-        return refusal_of(k);
-    }
-    tail_of(k)
+    let a = put(line, 43, &head);
+    let b = put_number(a, 51, 3, n);
+    put(b, 54, &tail)
 }
 
-fn answered(s: Said, line: [u8; 81]) -> [u8; 81]
+// Of a refused call the refusal's number, and why it is one.
+fn answered(s: Result<Said, Refusal>, line: [u8; 81]) -> [u8; 81]
     ensures { result ≡ answered s line }
 {
-    let h = head_of(s.head);
-    let a = put(line, 43, &h);
-    let b = put_number(a, 51, 3, s.counts, s.number);
-    let t = last_words(s.refuses, s.tail as usize);
-    put(b, 54, &t)
+    match s {
+        Err(r) => sentence(*b"refused ", Some(u64::from(r)), refusal_word(r), line),
+        Ok(s) => sentence(s.head.word(), s.number, last_word(s.tail), line),
+    }
 }
 
-fn left(c: Call, a: After, line: [u8; 81]) -> [u8; 81]
-    ensures { result ≡ left c a line }
+// The peer's share, where there is a peer.
+fn share_of(peer: Option<u64>, share: u64) -> Option<u64>
+    ensures { result ≡ share_of peer share }
 {
-    let x = put_number(line, 65, 2, c.peered, a.share);
-    let y = put_number(x, 67, 3, true, a.pending);
-    put_number(y, 70, 10, true, a.bytes)
+    peer.map(|_| share)
 }
 
-pub fn row(c: Call, s: Said, a: After) -> [u8; 81]
-    ensures { result ≡ row c s a }
+#[tactic(auto, unfolding(crate::specs::Rows::left))]
+fn left(m: Made, a: After, line: [u8; 81]) -> [u8; 81]
+    ensures { result ≡ left m a line }
 {
-    let l = begun(c.time, c.name);
-    let m = asked(c, l);
-    let n = answered(s, m);
-    left(c, a, n)
+    let share = share_of(m.peer, a.share);
+    let x = put_number(line, 65, 2, share);
+    let y = put_number(x, 67, 3, Some(a.pending));
+    put_number(y, 70, 10, Some(a.bytes))
+}
+
+#[tactic(auto, unfolding(crate::specs::Rows::row))]
+pub fn row(m: Made, s: Result<Said, Refusal>, a: After) -> [u8; 81]
+    ensures { result ≡ row m s a }
+{
+    let l = begun(m.time, m.call);
+    let p = asked(m, l);
+    let q = answered(s, p);
+    left(m, a, q)
 }
 
 // A line of the book: 53 bytes and a line end, then blanks.
-pub fn entry(k: usize, blocks: u64, bytes: u64) -> [u8; 81]
-    ensures { result ≡ entry k blocks bytes }
+#[tactic(auto, unfolding(crate::specs::Rows::entry))]
+pub fn entry(e: Entry, blocks: u64, bytes: u64) -> [u8; 81]
+    ensures { result ≡ entry e blocks bytes }
 {
     let mut l: [u8; 81] = [b' '; 81];
     l[53] = b'\n';
-    let w = entry_of(k);
+    let w = e.words();
     let a = put(l, 0, &w);
-    let b = put_number(a, 33, 8, true, blocks);
-    put_number(b, 41, 12, true, bytes)
+    let b = put_number(a, 33, 8, Some(blocks));
+    put_number(b, 41, 12, Some(bytes))
 }

@@ -1,6 +1,7 @@
 // An index over a list of hashes, four words a hash: whether the list names a hash is a few looks, however long the list is.
 // Its first words are the heads: for each bucket the last place of the list whose hash is in it, plus 1, and 0 for none. A link for each place
-// follows: the place before it in its bucket, plus 1. Of a list that is longer than there are links, the rest is looked through.
+// follows: the place before it in its bucket, plus 1. Of a list that is longer than there are links, the rest is looked through. A list with an index of
+// all of it is a `Listed`.
 #![tactic(auto)]
 
 ghost use Rattle.std.specs.Prelude.{◌≡◌, ◌+◌, ◌*◌, ◌/◌, ◌≤◌, false, length, take};
@@ -21,13 +22,27 @@ const SPREAD: u64 = 1021;
 // ---- buckets
 
 // `bucket`: the sum of all four words counts, so that it does not matter by which word hashes differ.
-fn bucket(a: u64, b: u64, c: u64, d: u64) -> usize
-    ensures { result ≡ bucket (hash a b c d) }
+#[tactic(auto, unfolding(crate::specs::Index::bucket))]
+fn bucket(h: Hash) -> usize
+    ensures { result ≡ bucket h }
 {
-    let x = std::num::wrapping_add_u64(a, b);
-    let y = std::num::wrapping_add_u64(c, d);
-    let sum = std::num::wrapping_add_u64(x, y);
-    (sum % SPREAD) as usize
+    let x = h.a.wrapping_add(h.b);
+    let y = h.c.wrapping_add(h.d);
+    (x.wrapping_add(y) % SPREAD) as usize
+}
+
+// The hash at a place of the list.
+fn hash_at(list: &[u64], i: usize) -> Hash
+    requires { 4 * i + 4 ≤ length list.now }
+    ensures { result ≡ hash_at list.now i }
+{
+    let k = HASH_WORDS * i;
+    Hash {
+        a: list[k],
+        b: list[k + 1],
+        c: list[k + 2],
+        d: list[k + 3],
+    }
 }
 
 // The bucket of the hash at a place of the list.
@@ -35,17 +50,15 @@ fn bucket_at(list: &[u64], i: usize) -> usize
     requires { 4 * i + 4 ≤ length list.now }
     ensures { result ≡ bucket (hash_at list.now i) }
 {
-    let k = HASH_WORDS * i;
-    bucket(list[k], list[k + 1], list[k + 2], list[k + 3])
+    bucket(hash_at(list, i))
 }
 
-// Whether the hash at a place of the list is the one of these words.
-fn is_at(list: &[u64], i: usize, a: u64, b: u64, c: u64, d: u64) -> bool
+// Whether the hash is at a place of the list.
+fn is_at(list: &[u64], i: usize, h: Hash) -> bool
     requires { 4 * i + 4 ≤ length list.now }
-    ensures { result ≡ same (hash a b c d) (hash_at list.now i) }
+    ensures { result ≡ same h (hash_at list.now i) }
 {
-    let k = HASH_WORDS * i;
-    hash::equal_words(a, b, c, d, list[k], list[k + 1], list[k + 2], list[k + 3])
+    hash::equal(h, hash_at(list, i))
 }
 
 // `linked`: how many of n places have a link, in an index of so many words.
@@ -101,26 +114,19 @@ fn add_all(index: &mut [u32], list: &[u64])
     }
 }
 
-// The whole list, whatever was in the index.
-pub fn index_list(index: &mut [u32], list: &[u64])
-    requires { Sized index.old }
-    ensures { Indexed (length list.now / 4) list.now index.new }
-{
-    clear(index);
-    add_all(index, list);
-}
-
 // ---- the index asked
 
-// Whether the hash is at one of the places that have a link: those of its bucket are looked at, the last first.
+// Whether the hash is at one of the places that have a link: those of its bucket are looked at, the last first. Its words come as numbers: in the
+// loop the proof needs their bounds, and a struct that goes through it brings none for its fields.
 fn chained(index: &[u32], list: &[u64], n: usize, a: u64, b: u64, c: u64, d: u64) -> bool
     requires { Indexed n list.now index.now × (4 * n ≤ length list.now) }
     ensures { result ≡ any (same (hash a b c d)) (take (linked n (length index.now)) (hashes_in list.now)) }
 {
-    let head = bucket(a, b, c, d);
+    let h = Hash { a, b, c, d };
+    let head = bucket(h);
     let mut j = index[head] as usize;
     while let Some(i) = j.checked_sub(1) {
-        if is_at(list, i, a, b, c, d) {
+        if is_at(list, i, h) {
             return true;
         }
         j = index[BUCKETS + i] as usize;
@@ -129,28 +135,16 @@ fn chained(index: &[u32], list: &[u64], n: usize, a: u64, b: u64, c: u64, d: u64
 }
 
 // The same for places that have none, from m on: it is at none before.
-fn looked_through(list: &[u64], m: usize, n: usize, a: u64, b: u64, c: u64, d: u64) -> bool
-    requires { (any (same (hash a b c d)) (take m (hashes_in list.now)) ≡ false) × ((m ≤ n) × (4 * n ≤ length list.now)) }
-    ensures { result ≡ any (same (hash a b c d)) (take n (hashes_in list.now)) }
+fn looked_through(list: &[u64], m: usize, n: usize, h: Hash) -> bool
+    requires { (any (same h) (take m (hashes_in list.now)) ≡ false) × ((m ≤ n) × (4 * n ≤ length list.now)) }
+    ensures { result ≡ any (same h) (take n (hashes_in list.now)) }
 {
     for i in m..n {
-        if is_at(list, i, a, b, c, d) {
+        if is_at(list, i, h) {
             return true;
         }
     }
     false
-}
-
-// The words go on as numbers, since a struct brings no bounds on its fields.
-fn names_first_words(index: &[u32], list: &[u64], n: usize, a: u64, b: u64, c: u64, d: u64) -> bool
-    requires { Indexed n list.now index.now × (4 * n ≤ length list.now) }
-    ensures { result ≡ any (same (hash a b c d)) (take n (hashes_in list.now)) }
-{
-    if chained(index, list, n, a, b, c, d) {
-        return true;
-    }
-    let m = linked(n, index.len());
-    looked_through(list, m, n, a, b, c, d)
 }
 
 // Whether the first n hashes of the list name the hash.
@@ -158,14 +152,45 @@ pub fn names_first(index: &[u32], list: &[u64], n: usize, h: Hash) -> bool
     requires { Indexed n list.now index.now × (4 * n ≤ length list.now) }
     ensures { result ≡ any (same h) (take n (hashes_in list.now)) }
 {
-    names_first_words(index, list, n, h.a, h.b, h.c, h.d)
+    if chained(index, list, n, h.a, h.b, h.c, h.d) {
+        return true;
+    }
+    let m = linked(n, index.len());
+    looked_through(list, m, n, h)
 }
 
-// `names`: whether the list names the hash.
-pub fn names(index: &[u32], list: &[u64], h: Hash) -> bool
-    requires { Indexed (length list.now / 4) list.now index.now }
-    ensures { result ≡ names list.now h }
-{
-    let n = list.len() / HASH_WORDS;
-    names_first(index, list, n, h)
+// ---- a list with its index
+
+#[derive(Clone, Copy)]
+pub struct Listed<'a> {
+    pub hashes: &'a [u64],
+    pub index: &'a [u32],
+    ghost indexed: { Indexed (length hashes.now / 4) hashes.now index.now },
+}
+
+impl<'a> Listed<'a> {
+    // The list with an index of it all, made in words that may have said anything.
+    pub fn new(hashes: &'a [u64], index: &'a mut [u32]) -> Listed<'a>
+        requires { Sized index.old }
+        ensures { result.hashes.now ≡ hashes.now }
+    {
+        clear(index);
+        add_all(index, hashes);
+        Listed { hashes, index }
+    }
+
+    // How many hashes there are.
+    pub fn len(self) -> usize
+        ensures { result ≡ length self.entry.hashes.now / 4 }
+    {
+        self.hashes.len() / HASH_WORDS
+    }
+
+    // `names`: whether the list names the hash.
+    pub fn names(self, h: Hash) -> bool
+        ensures { result ≡ names self.entry.hashes.now h }
+    {
+        let n = self.len();
+        names_first(self.index, self.hashes, n, h)
+    }
 }

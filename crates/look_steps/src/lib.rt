@@ -15,14 +15,13 @@ ghost use Rattle.laws.specs.Whole.{Whole, Holds};
 ghost use Rattle.watch.specs.Answers.{blocked_of};
 ghost use Rattle.look_steps.specs.Steps.{Blames};
 
-use lent_pace::Turn;
-use model::{Blocked, Entry, Hash, Observation, Pace, StallEpisode};
+use model::{Blocked, Entry, Hash, Observation, Pace, StallEpisode, Words};
 
 // ---- the stuck frontier
 
 // `advance_apply_side_stuck`, and its eviction as an answer.
 pub fn advance_apply_side_stuck(
-    words: &mut [u64],
+    words: &mut Words,
     next: u64,
     frontier: Option<Hash>,
     busy: bool,
@@ -43,7 +42,7 @@ pub fn advance_apply_side_stuck(
 // ---- the stall
 
 // The episode ends, the wait is widened, and the owner is noted as unresponsive.
-fn end_stall(words: &mut [u64], widened: Pace, owner: usize, clock: u64)
+fn end_stall(words: &mut Words, widened: Pace, owner: usize, clock: u64)
     requires { Whole words.old × (owner < 256) × (clock ≤ max_clock) × (key_of owner (window_of words.old) ≤ max_seat) }
     ensures { Holds (mark_peer_unresponsive owner clock (with_pace widened (with_stall None (window_of words.old)))) words.new }
 {
@@ -53,7 +52,7 @@ fn end_stall(words: &mut [u64], widened: Pace, owner: usize, clock: u64)
 }
 
 // `stall_at`: an episode as old as the wait in force fires.
-fn stall_at(words: &mut [u64], e: Entry, clock: u64) -> Option<u64>
+fn stall_at(words: &mut Words, e: Entry, clock: u64) -> Option<u64>
     requires { Whole words.old × Sound clock (window_of words.old) × (e.owner ≤ max_seat) }
     ensures { Blames (stall_at e clock (window_of words.old)) words.new result }
 {
@@ -62,7 +61,7 @@ fn stall_at(words: &mut [u64], e: Entry, clock: u64) -> Option<u64>
     let s = state::get_stall(words);
     let since = watch::stalled_since(s, e, clock);
     let wait = pace::effective_stall_timeout(b, p);
-    let waited = numbers::minus(clock, since);
+    let waited = clock.saturating_sub(since);
     let owner = e.owner;
     if waited < wait {
         let h = e.hash;
@@ -76,14 +75,14 @@ fn stall_at(words: &mut [u64], e: Entry, clock: u64) -> Option<u64>
         );
         return None;
     }
-    let widened = lent_pace::changed(Turn::Blame, p, b, clock);
+    let widened = lent_pace::lend_at_blame(p, b);
     end_stall(words, widened, owner as usize, clock);
     Some(owner)
 }
 
 // `advance_stall`: a missing front, or one that does not block, ends the step and clears the episode.
 pub fn advance_stall(
-    words: &mut [u64],
+    words: &mut Words,
     next: u64,
     staged: u64,
     highest: Option<u64>,
@@ -108,7 +107,7 @@ pub fn advance_stall(
 // ---- the pending timeout
 
 // Whether an armed observation's entry is still its owner's, and the owner expired.
-fn still_late(words: &[u64], owner: u64, h: Hash, clock: u64) -> bool
+fn still_late(words: &Words, owner: u64, h: Hash, clock: u64) -> bool
     requires { Whole words.now × Sound clock (window_of words.now) × (owner ≤ max_seat) }
     ensures { result ≡ (still_owned (found h (window_of words.now).queue.pending) owner && owner_download_expired owner (active (window_of words.now)) clock (window_of words.now)) }
 {
@@ -124,7 +123,7 @@ fn still_late(words: &[u64], owner: u64, h: Hash, clock: u64) -> bool
 }
 
 // The observation is spent on a blame.
-fn blame_late(words: &mut [u64], owner: u64, clock: u64) -> Option<u64>
+fn blame_late(words: &mut Words, owner: u64, clock: u64) -> Option<u64>
     requires { Whole words.old × Sound clock (window_of words.old) × (owner ≤ max_seat) }
     ensures { Blames (blame (mark_peer_unresponsive owner clock (with_observation Observation.Unarmed (window_of words.old))) (Some owner)) words.new result }
 {
@@ -135,7 +134,7 @@ fn blame_late(words: &mut [u64], owner: u64, clock: u64) -> Option<u64>
 }
 
 // `timeout_by` of an armed observation: it blames or ends.
-fn spend_armed(words: &mut [u64], owner: u64, h: Hash, clock: u64) -> Option<u64>
+fn spend_armed(words: &mut Words, owner: u64, h: Hash, clock: u64) -> Option<u64>
     requires { Whole words.old × Sound clock (window_of words.old) × (owner ≤ max_seat) }
     ensures { Blames (timeout_by (Observation.Armed owner h) clock (window_of words.old)) words.new result }
 {
@@ -148,7 +147,7 @@ fn spend_armed(words: &mut [u64], owner: u64, h: Hash, clock: u64) -> Option<u64
 }
 
 // `timeout_by` without an observation: the lowest entry of an expired owner arms one.
-fn arm_lowest(words: &mut [u64], clock: u64) -> Option<u64>
+fn arm_lowest(words: &mut Words, clock: u64) -> Option<u64>
     requires { Whole words.old × Sound clock (window_of words.old) }
     ensures { Blames (timeout_by Observation.Unarmed clock (window_of words.old)) words.new result }
 {
@@ -159,7 +158,7 @@ fn arm_lowest(words: &mut [u64], clock: u64) -> Option<u64>
 }
 
 // `advance_pending_timeout`
-pub fn advance_pending_timeout(words: &mut [u64], clock: u64) -> Option<u64>
+pub fn advance_pending_timeout(words: &mut Words, clock: u64) -> Option<u64>
     requires { Whole words.old × Sound clock (window_of words.old) }
     ensures { Blames (advance_pending_timeout clock (window_of words.old)) words.new result }
 {

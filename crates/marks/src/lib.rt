@@ -1,16 +1,18 @@
-// Which records go: a mark for each, 0 where it stays, else its reason. Read-only, one loop over the records for each rule; the owner timeout is
-// worked out once and handed in. `count` is how many places are live. Contracts speak of the window that the words say.
+// Which records go: a mark for each, 0 where it stays, else the number of its reason, as the definitions' `sweep_reason` and `lost_reason` are
+// numbers and a report's word holds one; eight columns are kept by such marks without a branch. Read-only, one loop over the records for each rule; the
+// owner timeout is worked out once and handed in. `count` is how many places are live. Contracts speak of the window that the words say.
 #![tactic(auto)]
 
 ghost use Rattle.std.specs.Prelude.{◌≡◌, cond, not, ◌&&◌, map, ◌+◌, ◌-◌, ◌<◌, ◌≤◌, suc, length, take, eqb, ltb, leb};
 ghost use Rattle.model.specs.Numbers.{max_clock, max_estimate};
 ghost use Rattle.model.specs.Time.{expired, effective_owner_timeout, active};
+ghost use Rattle.model.specs.Reasons.{reason_number};
 ghost use Rattle.model.specs.LettingGo.{sweep_reason, lost_reason, flagged, forecast_blocks, forecast_bytes};
 ghost use Rattle.model.specs.Layout.{window_of};
 ghost use Rattle.laws.specs.Batches.{retire_reason};
 ghost use Rattle.laws.specs.Pending.{Ranged};
 
-use model::{at, sizes};
+use model::{PerSeat, Reason, Words, at, sizes};
 
 // What a sweep would take of expired owners: how many entries, and their bytes.
 #[derive(Clone, Copy)]
@@ -26,33 +28,33 @@ fn passed_over(clock: u64, wait: u64, time: u64, body: u64) -> bool
     requires { time ≤ max_clock }
     ensures { result ≡ (leb wait (clock - time) && ltb (suc time) body) }
 {
-    let age = numbers::minus(clock, time);
+    let age = clock.saturating_sub(time);
     (wait <= age) & (time + 1 < body)
 }
 
-// 6 goes before 7.
+// A time out goes before what is passed over.
 fn sweep_mark(clock: u64, timeout: u64, wait: u64, time: u64, start: u64, body: u64) -> u64
     requires { (clock ≤ max_clock) × (time ≤ max_clock) }
     ensures { result ≡ cond (expired clock timeout start) 6 (cond (leb wait (clock - time) && ltb (suc time) body) 7 0) }
 {
     if time::expired(clock, timeout, start) {
-        return 6;
+        return u64::from(Reason::OwnerTimeOut);
     }
     if passed_over(clock, wait, time, body) {
-        return 7;
+        return u64::from(Reason::PassedOver);
     }
     0
 }
 
 // `sweep_reason`
 pub fn sweep_marks(
-    words: &[u64],
+    words: &Words,
     count: usize,
     clock: u64,
     timeout: u64,
     wait: u64,
 ) -> [u64; sizes::PLACES]
-    requires { (length words.now ≡ 4096) × ((count ≡ length (window_of words.now).queue.pending) × ((wait ≡ (window_of words.now).pace.wait) × (Ranged (window_of words.now) × (clock ≤ max_clock)))) }
+    requires { (count ≡ length (window_of words.now).queue.pending) × (wait ≡ (window_of words.now).pace.wait) × Ranged (window_of words.now) × (clock ≤ max_clock) }
     ensures { take count result ≡ map (sweep_reason clock timeout (window_of words.now)) (window_of words.now).queue.pending }
 {
     let mut marks = [0; sizes::PLACES];
@@ -72,14 +74,14 @@ fn retire_mark(height: u64, limit: u64) -> u64
     ensures { result ≡ cond (ltb height limit) 5 0 }
 {
     if height < limit {
-        return 5;
+        return u64::from(Reason::Retired);
     }
     0
 }
 
 // `retire_reason`
-pub fn retire_marks(words: &[u64], count: usize, height: u64) -> [u64; sizes::PLACES]
-    requires { (length words.now ≡ 4096) × (count ≡ length (window_of words.now).queue.pending) }
+pub fn retire_marks(words: &Words, count: usize, height: u64) -> [u64; sizes::PLACES]
+    requires { count ≡ length (window_of words.now).queue.pending }
     ensures { take count result ≡ map (retire_reason height) (window_of words.now).queue.pending }
 {
     let mut marks = [0; sizes::PLACES];
@@ -101,15 +103,21 @@ fn lost_mark(flag: u64, reason: u64) -> u64
 }
 
 // `lost_reason` by flags, nonzero for a seat that is kept.
-pub fn lost_marks(words: &[u64], count: usize, flags: &[u64], reason: u64) -> [u64; sizes::PLACES]
-    requires { (length words.now ≡ 4096) × ((count ≡ length (window_of words.now).queue.pending) × ((length flags.now ≡ 256) × Ranged (window_of words.now))) }
-    ensures { take count result ≡ map (lost_reason (flagged flags.now) reason) (window_of words.now).queue.pending }
+pub fn lost_marks(
+    words: &Words,
+    count: usize,
+    flags: &PerSeat,
+    reason: Reason,
+) -> [u64; sizes::PLACES]
+    requires { (count ≡ length (window_of words.now).queue.pending) × Ranged (window_of words.now) }
+    ensures { take count result ≡ map (lost_reason (flagged flags.now) (reason_number reason)) (window_of words.now).queue.pending }
 {
+    let number = u64::from(reason);
     let mut marks = [0; sizes::PLACES];
     for i in 0..count {
         let o = words[i + at::OWNERS];
         let owner = o as usize;
-        marks[i] = lost_mark(flags[owner], reason);
+        marks[i] = lost_mark(flags[owner], number);
     }
     marks
 }
@@ -129,8 +137,8 @@ fn counted(f: Forecast, expired: bool, estimate: u64) -> Forecast
 }
 
 // `forecast_blocks` and `forecast_bytes`
-pub fn forecast_of(words: &[u64], count: usize, clock: u64, timeout: u64) -> Forecast
-    requires { (length words.now ≡ 4096) × ((count ≡ length (window_of words.now).queue.pending) × ((timeout ≡ effective_owner_timeout (active (window_of words.now)) (window_of words.now)) × (Ranged (window_of words.now) × (clock ≤ max_clock)))) }
+pub fn forecast_of(words: &Words, count: usize, clock: u64, timeout: u64) -> Forecast
+    requires { (count ≡ length (window_of words.now).queue.pending) × (timeout ≡ effective_owner_timeout (active (window_of words.now)) (window_of words.now)) × Ranged (window_of words.now) × (clock ≤ max_clock) }
     ensures { (result.blocks ≡ forecast_blocks clock (window_of words.now)) × (result.bytes ≡ forecast_bytes clock (window_of words.now)) }
 {
     let limit = time::expiry_limit(clock, timeout);

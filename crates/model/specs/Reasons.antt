@@ -5,6 +5,20 @@ use Rattle.std.specs.Prelude.{ℕ, Bool, cond, not, ◌||◌, List, [], ◌∷�
 use Rattle.model.specs.Numbers.{lesser}
 use Rattle.model.specs.declared.Entry.{Entry}
 use Rattle.model.specs.declared.Release.{Release}
+use Rattle.model.specs.declared.Reason.{Reason}
+use Rattle.model.specs.declared.Reason.TheVariants.{Delivered, OwnerRejection, Retry, Released, Retired, OwnerTimeOut, PassedOver, SeatLost, PrefixRaceLost, HedgeLost}
+
+abbrev pub reason_number : Reason → ℕ
+reason_number Delivered = 1
+reason_number OwnerRejection = 2
+reason_number Retry = 3
+reason_number Released = 4
+reason_number Retired = 5
+reason_number OwnerTimeOut = 6
+reason_number PassedOver = 7
+reason_number SeatLost = 8
+reason_number PrefixRaceLost = 9
+reason_number HedgeLost = 10
 
 -- at each reason 1 where it lowers the frontier to the entry's height, else 0; place 0 is no reason
 abbrev pub lowering : List ℕ

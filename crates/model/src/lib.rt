@@ -2,6 +2,7 @@
 #![tactic(auto)]
 
 ghost use Rattle.std.specs.Prelude.{◌≡◌};
+ghost use Rattle.model.specs.Reasons.{reason_number};
 ghost use Rattle.model.specs.Says.{number};
 
 pub mod at;
@@ -10,9 +11,24 @@ pub mod limits;
 pub mod of_release;
 pub mod sizes;
 
+// The lent words of a window.
+pub type Words = [u64; at::WORDS];
+
+// A word for each seat: flags, keys.
+pub type PerSeat = [u64; sizes::SEATS];
+
+// A word for each place of the records or of a report: marks, orders.
+pub type PerPlace = [u64; sizes::PLACES];
+
+// What was let go, in flat words: nine for each place of a report.
+pub type Gone = [u64; sizes::REPORT_WORDS];
+
+// The same, of one place.
+pub type OneGone = [u64; sizes::RELEASE_WORDS];
+
 // A block hash: 32 bytes as four words, the first bytes heaviest.
 #[repr(C)]
-#[derive(Clone, Copy)]
+#[derive(Clone, Copy, PartialEq, Eq, PartialOrd, Ord)]
 pub struct Hash {
     pub a: u64,
     pub b: u64,
@@ -31,7 +47,7 @@ pub struct Entry {
     pub estimate: u64,
 }
 
-// An entry that was let go, and why: one of the ten reasons.
+// An entry that was let go, and why: the number of one of the ten reasons, as the C interface says it.
 #[repr(C)]
 #[derive(Clone, Copy)]
 pub struct Release {
@@ -149,6 +165,41 @@ impl From<Refusal> for u64 {
             Refusal::ShortOutput => 10,
             Refusal::Payload => 11,
             Refusal::Chain => 12,
+        }
+    }
+}
+
+// Why an entry goes: SPECIFICATION 5.1 has a number for each, `reason_number` of Reasons.antt.
+#[derive(Clone, Copy, PartialEq, Eq)]
+pub enum Reason {
+    Delivered,
+    OwnerRejection,
+    Retry,
+    Released,
+    Retired,
+    OwnerTimeOut,
+    PassedOver,
+    SeatLost,
+    PrefixRaceLost,
+    HedgeLost,
+}
+
+// As a report says it.
+impl From<Reason> for u64 {
+    ghost from_gives = { λ r n. n ≡ reason_number r };
+
+    fn from(r: Reason) -> u64 {
+        match r {
+            Reason::Delivered => 1,
+            Reason::OwnerRejection => 2,
+            Reason::Retry => 3,
+            Reason::Released => 4,
+            Reason::Retired => 5,
+            Reason::OwnerTimeOut => 6,
+            Reason::PassedOver => 7,
+            Reason::SeatLost => 8,
+            Reason::PrefixRaceLost => 9,
+            Reason::HedgeLost => 10,
         }
     }
 }

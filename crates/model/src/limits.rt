@@ -1,4 +1,5 @@
 // The limits of what a window may hold and of what a call may be handed. Where no other file is named, Numbers.antt has each by the same name.
+// Contracts name them (`clock ≤ max_clock`): a type for each bound would be made at every call from C and opened at every sum (DECISIONS 59).
 use crate::sizes;
 
 // the format word's value, `format` of Layout.antt: a later layout takes another

@@ -14,10 +14,10 @@ ghost use Rattle.cold_front.specs.Cold.{asked};
 ghost use Rattle.watch.specs.Answers.{blocked_of};
 ghost use Rattle.observation.specs.Look.{look, Sees};
 
-use model::{Blocked, ColdFront, Hash, Observation};
+use model::{Blocked, ColdFront, Hash, Observation, Words};
 
 // What a busy apply side clears: stall and observation, and the cold front unless it races. No decision has a part in it.
-fn clear_watch(words: &mut [u64])
+fn clear_watch(words: &mut Words)
     requires { Whole words.old }
     ensures { (d : Decision) → Holds (busy_seen d (window_of words.old)).window words.new }
 {
@@ -32,7 +32,7 @@ fn clear_watch(words: &mut [u64])
 
 // `stall_seen` of `advance_stall`, what follows the cold front: the first blame answers, else the hedge that it found.
 fn after_cold_front(
-    words: &mut [u64],
+    words: &mut Words,
     next: u64,
     staged: u64,
     highest: Option<u64>,
@@ -62,7 +62,7 @@ fn hedge_answer(hedge: Option<(u64, Hash)>) -> Blocked
 
 // `idle_seen`: cold front, then stall, then pending timeout.
 fn observe_idle(
-    words: &mut [u64],
+    words: &mut Words,
     next: u64,
     staged: u64,
     highest: Option<u64>,
@@ -77,7 +77,7 @@ fn observe_idle(
 }
 
 // `observe_at` without a next height: stuck frontier, cold front and stall are passed by.
-fn observe_unplaced(words: &mut [u64], busy: bool, clock: u64) -> Blocked
+fn observe_unplaced(words: &mut Words, busy: bool, clock: u64) -> Blocked
     requires { Whole words.old × Sound clock (window_of words.old) }
     ensures { (n : Option ℕ) (f : Option Hash) (s : ℕ) (g : Option ℕ) → Sees (observe_at None (look n f busy s g) clock (window_of words.old)) words.new result }
 {
@@ -91,7 +91,7 @@ fn observe_unplaced(words: &mut [u64], busy: bool, clock: u64) -> Blocked
 
 // `observe_blocked`: stuck frontier; busy; then what is left of the look.
 pub fn observe_blocked(
-    words: &mut [u64],
+    words: &mut Words,
     next: Option<u64>,
     frontier: Option<Hash>,
     busy: bool,

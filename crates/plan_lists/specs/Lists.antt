@@ -1,9 +1,9 @@
--- A plan in its two lent lists: one ask more, and a height that may be missing as a number. Assumes nothing.
-use Rattle.std.specs.Prelude.{◌≡◌, refl, List, [], ◌∷◌, ◌++◌, ℕ, zero, suc, ◌+◌, ◌*◌, ◌-◌, ◌≤◌, ◌<◌, length, take, drop, set, None, Some, Option}
+-- A plan in its two lent lists: one ask more. Assumes nothing.
+use Rattle.std.specs.Prelude.{◌≡◌, refl, List, [], ◌∷◌, ◌++◌, ℕ, suc, ◌+◌, ◌*◌, ◌≤◌, ◌<◌, length, take, drop, set}
 use Rattle.std.proofs.Common.{sym, ap, ◌∙◌, append_assoc, arith, length-append, take_at, length-take-le, drop-drop}
 use Rattle.std.proofs.Math.Seq.{drop-append-add}
 use Rattle.std.proofs.lemmas.List.{set_split}
-use Rattle.std.proofs.lemmas.List.Edits.{sets, sets-eq}
+use Rattle.std.proofs.lemmas.List.Edits.{sets-eq}
 use Rattle.model.specs.Hash.{hash_words}
 use Rattle.model.specs.Calls.{Ask}
 use Rattle.model.specs.Planning.{ask_hashes, ask_heights, written}
@@ -89,9 +89,3 @@ heights_put asks a lent list n k e =
     ap (placed n (a.height ∷ [])) e
     ∙ written_more (ask_heights asks) (a.height ∷ []) lent n (k ∙ sym (heights_length asks))
     ∙ ap (λ (u : List ℕ). written u lent) (sym (heights_more asks a))
-
--- ---- a height that may be missing, as a number: 0 for none
-
-abbrev pub height_of : ℕ → Option ℕ
-height_of zero = None
-height_of (suc n) = Some n

@@ -21,7 +21,8 @@ fn put_hash(hashes: &mut [u64], n: usize, h: Hash)
     hashes[k + 3] = h.d;
 }
 
-// An ask at the end of a plan of n.
+// An ask at the end of a plan of n. The lists go as three `&mut`, here and above: of a struct each function would have to promise, besides what it does,
+// the ghost names and the lengths of all three.
 pub fn put_ask(
     hashes: &mut [u64],
     heights: &mut [u32],

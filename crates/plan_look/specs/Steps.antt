@@ -14,17 +14,14 @@ use Rattle.laws.specs.Sound.{Sound}
 use Rattle.laws.specs.Parts.{sound_frontier}
 use Rattle.laws.specs.Whole.{Whole, Holds}
 use Rattle.requests.specs.Asks.{hash_in}
-use Rattle.listed.specs.Index.{Indexed}
 use Rattle.listed.specs.Search.{length_hashes, hashes_at}
 use Rattle.plan_look.specs.declared.Look.TheVariants.{PassBy, NoteRefused, Take}
 use Rattle.plan_look.specs.Scan.{look_of}
 
--- what is asked whether it names a hash
-pub record Asked (ws staged staged_index refused refused_index : List ℕ) : Type 0 where
+-- words of a window, in which a hash is asked for
+pub record Asked (ws : List ℕ) : Type 0 where
   pub whole : Whole ws
   pub rises : rising (window_of ws).queue.pending ≡ true
-  pub stages : Indexed (length staged / 4) staged staged_index
-  pub refuses : Indexed (length refused / 4) refused refused_index
 
 -- the first of some hashes is there, and neither pending nor staged
 abbrev pub first_open : List Entry → List ℕ → List Hash → Bool

@@ -1,15 +1,17 @@
 -- What the code asks, and what it gives. Assumes nothing.
-use Rattle.std.specs.Prelude.{◌≡◌, refl, List, ℕ, suc, ◌+◌, ◌*◌, ◌-◌, ◌/◌, ◌≤◌, length, None, Option}
+use Rattle.std.specs.Prelude.{◌≡◌, refl, List, [], ◌∷◌, ℕ, zero, suc, ◌+◌, ◌*◌, ◌-◌, ◌/◌, ◌≤◌, length, None, Option}
 use Rattle.model.specs.Numbers.{lesser, greater, max_height}
 use Rattle.model.specs.Window.{Window, Step}
 use Rattle.model.specs.Layout.{window_of}
 use Rattle.model.specs.Calls.{Ask}
 use Rattle.model.specs.Planning.{Lent, Scan, Draft, Proposal, contiguous_request_entries, request_from, scan_of, ask_hashes, ask_heights, written}
+use Rattle.model.specs.Perform.{plan_values}
+use Rattle.model.specs.Says.{request_values}
 use Rattle.model.specs.declared.Entry.{Entry}
+use Rattle.model.specs.declared.Request.{Request}
 use Rattle.listed.specs.Index.{Indexed}
 use Rattle.plan_scan.specs.declared.RequestScan.{RequestScan}
 use Rattle.plan_scan.specs.declared.Scanning.{Scanning}
-use Rattle.plan_scan.specs.declared.Proposed.{Proposed}
 use Rattle.plan_look.specs.Scan.{scanned, scan_over}
 use Rattle.plan_look.specs.Plan.{Drawn}
 
@@ -72,13 +74,17 @@ pub record Given (chain staged refused : List ℕ) (w : Window) (hs ts : List �
   pub hashes : hs ≡ written (ask_hashes d.asks) hs₀
   pub heights : ts ≡ written (ask_heights d.asks) ts₀
 
--- the two lists hold the proposal's entries
-pub record Planned (p : Proposal) (hs₀ ts₀ hs ts : List ℕ) (r : Proposed) : Type 0 where
-  pub count : r.count ≡ length p.asks
-  pub next : r.next ≡ p.next
+-- what a request says of n entries: nothing where there are none
+unfoldable pub plan_numbers : ℕ → ℕ → List ℕ
+plan_numbers zero next = []
+plan_numbers (suc n) next = suc n ∷ next ∷ []
+
+-- the two lists hold the proposal's entries, and the request says how many they are, and the next height
+pub record Planned (p : Proposal) (hs₀ ts₀ hs ts : List ℕ) (r : Option Request) : Type 0 where
+  pub values : request_values r ≡ plan_values p.asks p.next
   pub hashes : hs ≡ written (ask_hashes p.asks) hs₀
   pub heights : ts ≡ written (ask_heights p.asks) ts₀
 
-abbrev pub Proposes : List ℕ → List ℕ → List ℕ → Window → List ℕ → List ℕ → RequestScan → ℕ → Option ℕ → List ℕ → List ℕ → Proposed → Type 0
+abbrev pub Proposes : List ℕ → List ℕ → List ℕ → Window → List ℕ → List ℕ → RequestScan → ℕ → Option ℕ → List ℕ → List ℕ → Option Request → Type 0
 Proposes chain staged refused w hs ts s count low hs' ts' r =
     (l : Lent) (t : Step) (d : Draft) (hs₀ ts₀ : List ℕ) → Given chain staged refused w hs ts count low l t d hs₀ ts₀ → Planned (request_from l t (scan_says s) d) hs₀ ts₀ hs' ts' r

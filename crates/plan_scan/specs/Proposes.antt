@@ -1,7 +1,6 @@
 -- `request_from` by what the code answers. Assumes nothing.
-use Rattle.std.specs.Prelude.{◌≡◌, refl, Bool, true, false, cond, not, ◌&&◌, List, [], ◌∷◌, ℕ, suc, ◌+◌, ◌*◌, ◌-◌, ◌/◌, ◌≤◌, ◌<◌, length, eqb, ltb, leb, None, Some, Option}
+use Rattle.std.specs.Prelude.{◌≡◌, refl, Bool, true, false, cond, not, ◌&&◌, List, [], ◌∷◌, ℕ, zero, suc, ◌+◌, ◌*◌, ◌-◌, ◌/◌, ◌≤◌, ◌<◌, length, eqb, ltb, leb, None, Option}
 use Rattle.std.proofs.Common.{sym, ap, subst, ◌∙◌, inl, inr, arith, eq-eqb, ne_eqb, eqb-true, leb-true, ltb-true}
-use Rattle.std.proofs.Math.Dec.{eqb-suc-zero}
 use Rattle.std.proofs.lemmas.Bool.{eqb-false, not-false}
 use Rattle.model.specs.Numbers.{lesser, greater, next_height, max_height}
 use Rattle.model.specs.Hash.{hashes_in}
@@ -9,46 +8,55 @@ use Rattle.model.specs.Window.{Window, Step}
 use Rattle.model.specs.Layout.{window_of}
 use Rattle.model.specs.Calls.{Ask}
 use Rattle.model.specs.Planning.{Lent, Scan, Draft, Proposal, held_back, non_empty_request, contiguous_request_entries, reach, request_from, ask_hashes, ask_heights, written}
+use Rattle.model.specs.Perform.{plan_values}
+use Rattle.model.specs.Says.{request_values}
+use Rattle.model.specs.declared.Request.{Request}
 use Rattle.laws.specs.Numbers.{both, and_left, and_right, lesser_le_first, lesser_le_second, second_le_greater}
 use Rattle.listed.specs.Index.{Indexed}
 use Rattle.listed.specs.Search.{length_hashes}
 use Rattle.plan_scan.specs.declared.RequestScan.{RequestScan}
 use Rattle.plan_scan.specs.declared.Scanning.{Scanning}
-use Rattle.plan_scan.specs.declared.Proposed.{Proposed}
 use Rattle.plan_look.specs.Scan.{Scanned, scanned, scan_over}
 use Rattle.plan_scan.specs.Notes.{greater_max, held_twice}
 use Rattle.plan_scan.specs.Request.{is_unknown, ended, next_from, met_none, last_height, scan_end, is_met_none, request_scanned, request_over}
-use Rattle.plan_look.specs.Plan.{height_word, height_of, height_back, Drawn}
-use Rattle.plan_scan.specs.Promises.{Scannable, Scans, scan_says, scan_at, Plannable, Given, Planned, Proposes}
+use Rattle.plan_look.specs.Plan.{Drawn}
+use Rattle.plan_scan.specs.Promises.{Scannable, Scans, plan_numbers, scan_says, scan_at, Plannable, Given, Planned, Proposes}
 
 -- what the code answers, of n asks
-abbrev pub Answers : ℕ → ℕ → Proposed → Type 0
-Answers n next r = (r.count ≡ n) × (r.next ≡ cond (eqb n 0) 0 next)
+abbrev pub Answers : ℕ → ℕ → Option Request → Type 0
+Answers n next r = request_values r ≡ plan_numbers n next
 
 -- ---- a request that is not empty, or none
 
-planned_some : (t : Step) (asks : List Ask) (next : ℕ) (hs₀ ts₀ hs ts : List ℕ) (r : Proposed) → r.count ≡ length asks → r.next ≡ cond (eqb (length asks) 0) 0 next
+numbers_are : (asks : List Ask) (next : ℕ) → plan_numbers (length asks) next ≡ plan_values asks next
+unfolding plan_numbers
+numbers_are [] next = refl
+numbers_are (a ∷ asks) next = refl
+
+planned_some : (t : Step) (asks : List Ask) (next : ℕ) (hs₀ ts₀ hs ts : List ℕ) (r : Option Request) → request_values r ≡ plan_values asks next
     → hs ≡ written (ask_hashes asks) hs₀ → ts ≡ written (ask_heights asks) ts₀ → Planned (non_empty_request t asks next) hs₀ ts₀ hs ts r
 unfolding non_empty_request
-planned_some t [] next hs₀ ts₀ hs ts r c e h k = record { count = c; next = e; hashes = h; heights = k }
-planned_some t (a ∷ asks) next hs₀ ts₀ hs ts r c e h k =
-    record { count = c; next = e ∙ ap (λ (b : Bool). cond b 0 next) (eqb-suc-zero (length asks)); hashes = h; heights = k }
+planned_some t [] next hs₀ ts₀ hs ts r e h k = record { values = e; hashes = h; heights = k }
+planned_some t (a ∷ asks) next hs₀ ts₀ hs ts r e h k = record { values = e; hashes = h; heights = k }
 
-planned : (p : Proposal) (t : Step) (asks : List Ask) (next m n : ℕ) (hs₀ ts₀ hs ts : List ℕ) (r : Proposed) → p ≡ non_empty_request t asks next → n ≡ length asks → m ≡ next → Answers n m r
+planned : (p : Proposal) (t : Step) (asks : List Ask) (next m n : ℕ) (hs₀ ts₀ hs ts : List ℕ) (r : Option Request) → p ≡ non_empty_request t asks next → n ≡ length asks → m ≡ next → Answers n m r
     → hs ≡ written (ask_hashes asks) hs₀ → ts ≡ written (ask_heights asks) ts₀ → Planned p hs₀ ts₀ hs ts r
 planned p t asks next m n hs₀ ts₀ hs ts r is c q a h k =
     subst (λ (x : Proposal). Planned x hs₀ ts₀ hs ts r) (sym is)
-    (planned_some t asks next hs₀ ts₀ hs ts r (a.0 ∙ c) (a.1 ∙ (λ i. cond (eqb (c i) 0) 0 (q i))) h k)
+    (planned_some t asks next hs₀ ts₀ hs ts r (a ∙ (λ i. plan_numbers (c i) (q i)) ∙ numbers_are asks next) h k)
 
-pub answers_none : (n next : ℕ) → n ≡ 0 → Answers n next (record { count = n; next = 0 })
-answers_none n next z = (refl, sym (ap (λ (b : Bool). cond b 0 next) (eq-eqb n 0 z)))
+pub answers_none : (n next : ℕ) → n ≡ 0 → [] ≡ plan_numbers n next
+unfolding plan_numbers
+answers_none n next z = rw z
 
-pub answers_some : (n next : ℕ) → (n ≡ 0 → ⊥) → Answers n next (record { count = n; next = next })
-answers_some n next z = (refl, sym (ap (λ (b : Bool). cond b 0 next) (ne_eqb n 0 z)))
+pub answers_some : (n next : ℕ) → (n ≡ 0 → ⊥) → n ∷ next ∷ [] ≡ plan_numbers n next
+unfolding plan_numbers
+answers_some zero next h = absurd (h refl)
+answers_some (suc n) next h = refl
 
 -- ---- nothing to scan
 
-pub proposes_over : (chain staged refused : List ℕ) (w : Window) (hs ts : List ℕ) (s : RequestScan) (count : ℕ) (low : Option ℕ) (next : ℕ) (r : Proposed)
+pub proposes_over : (chain staged refused : List ℕ) (w : Window) (hs ts : List ℕ) (s : RequestScan) (count : ℕ) (low : Option ℕ) (next : ℕ) (r : Option Request)
     → s.next ≡ w.frontier → (leb s.height s.tip && ltb 0 s.limit) ≡ false → next ≡ held_back low s.next s.next → Answers count next r
     → Proposes chain staged refused w hs ts s count low hs ts r
 proposes_over chain staged refused w hs ts s count low next r f b e a = λ l t d hs₀ ts₀ g.
@@ -77,10 +85,6 @@ scannable ws chain hs ts index s count last end p e =
       heights = p.heights;
     }
 
-unknown_is : (h : Option ℕ) → eqb (height_word h) 0 ≡ is_unknown h
-unknown_is None = refl
-unknown_is (Some n) = eqb-suc-zero n
-
 full_is : (n left full : ℕ) → n + left ≡ full → eqb n full ≡ eqb left 0
 full_is n left full e = elim (both (eqb left 0)) [
   | inl q ↦ eq-eqb n full (omega (arith, eqb-true left 0 q)) ∙ sym q
@@ -88,14 +92,14 @@ full_is n left full e = elim (both (eqb left 0)) [
 ]
 
 -- the code's next height is the definition's
-next_is : (s : Scan) (last : ℕ) (low : Option ℕ) (x : Scanned) (taken pending staged full n first next : ℕ)
-    → n + x.left ≡ full → first ≡ height_word x.first → next ≡ x.next
-    → cond (eqb taken 0 && (eqb pending 0 && (eqb staged 0 && eqb first 0))) (greater s.next (next_height last))
-    (held_back (height_of first) s.next (held_back low s.next (cond (eqb n full) next (greater next (next_height s.tip)))))
+next_is : (s : Scan) (last : ℕ) (low : Option ℕ) (x : Scanned) (taken pending staged full n : ℕ) (first : Option ℕ) (next : ℕ)
+    → n + x.left ≡ full → first ≡ x.first → next ≡ x.next
+    → cond (eqb taken 0 && (eqb pending 0 && (eqb staged 0 && is_unknown first))) (greater s.next (next_height last))
+    (held_back first s.next (held_back low s.next (cond (eqb n full) next (greater next (next_height s.tip)))))
     ≡ next_from (met_none taken pending staged x.first) s last low x
 next_is s last low x taken pending staged full n first next room p q =
-    (λ i. cond (eqb taken 0 && (eqb pending 0 && (eqb staged 0 && (ap (λ (m : ℕ). eqb m 0) p ∙ unknown_is x.first) i))) (greater s.next (next_height last))
-    (held_back ((ap height_of p ∙ height_back x.first) i) s.next (held_back low s.next (cond (full_is n x.left full room i) (q i) (greater (q i) (next_height s.tip))))))
+    (λ i. cond (eqb taken 0 && (eqb pending 0 && (eqb staged 0 && is_unknown (p i)))) (greater s.next (next_height last))
+    (held_back (p i) s.next (held_back low s.next (cond (full_is n x.left full room i) (q i) (greater (q i) (next_height s.tip))))))
     ∙ ap (cond (met_none taken pending staged x.first) (greater s.next (next_height last))) (held_twice low x.first s.next (ended s x))
 
 module _ (chain staged refused : List ℕ) (w : Window) (hs ts hs' ts' : List ℕ) (s : RequestScan) (count : ℕ) (low : Option ℕ) (pending held last full : ℕ) (x : Scanning)
@@ -127,20 +131,20 @@ module _ (chain staged refused : List ℕ) (w : Window) (hs ts hs' ts' : List �
     requested : request_from l t (scan_says s) d ≡ non_empty_request t end.asks (next_from (is_met_none l t (scan_says s) d (ap (λ (v : Window). v.frontier) g.window ∙ sym frontier) above wants) (scan_says s) (last_height l t (scan_says s) d) d.low end)
     requested = request_scanned l t (scan_says s) d (ap (λ (v : Window). v.frontier) g.window ∙ sym frontier) above wants some
 
-    module _ (clean full? : Bool) (clean_is : clean ≡ (eqb count 0 && (eqb pending 0 && (eqb held 0 && eqb x.first 0)))) (full_says : full? ≡ eqb x.count full) where
+    module _ (clean full? : Bool) (clean_is : clean ≡ (eqb count 0 && (eqb pending 0 && (eqb held 0 && is_unknown x.first)))) (full_says : full? ≡ eqb x.count full) where
       next_by : cond clean (greater s.next (next_height last))
-          (held_back (height_of x.first) s.next (held_back low s.next (cond full? x.next (greater x.next (next_height s.tip)))))
+          (held_back x.first s.next (held_back low s.next (cond full? x.next (greater x.next (next_height s.tip)))))
           ≡ next_from (met_none (length d.asks) (length t.window.queue.pending) (length (hashes_in l.staged)) end.first) (scan_says s) (last_height l t (scan_says s) d) d.low end
       next_by =
-          (λ i. cond ((clean_is ∙ (λ j. eqb (g.count j) 0 && (eqb (pending_by j) 0 && (eqb (held_by j) 0 && eqb x.first 0)))) i) (greater s.next (next_height (last_by i)))
-          (held_back (height_of x.first) s.next (held_back (sym g.low i) s.next (cond (full_says i) x.next (greater x.next (next_height s.tip))))))
+          (λ i. cond ((clean_is ∙ (λ j. eqb (g.count j) 0 && (eqb (pending_by j) 0 && (eqb (held_by j) 0 && is_unknown x.first)))) i) (greater s.next (next_height (last_by i)))
+          (held_back x.first s.next (held_back (sym g.low i) s.next (cond (full_says i) x.next (greater x.next (next_height s.tip))))))
           ∙ next_is (scan_says s) (last_height l t (scan_says s) d) d.low end (length d.asks) (length t.window.queue.pending) (length (hashes_in l.staged)) full x.count x.first x.next
           drawn.room drawn.first drawn.next
 
-  pub proposes_scanned : (clean full? : Bool) → clean ≡ (eqb count 0 && (eqb pending 0 && (eqb held 0 && eqb x.first 0))) → full? ≡ eqb x.count full → (next : ℕ)
+  pub proposes_scanned : (clean full? : Bool) → clean ≡ (eqb count 0 && (eqb pending 0 && (eqb held 0 && is_unknown x.first))) → full? ≡ eqb x.count full → (next : ℕ)
       → next ≡ cond clean (greater s.next (next_height last))
-      (held_back (height_of x.first) s.next (held_back low s.next (cond full? x.next (greater x.next (next_height s.tip)))))
-      → (r : Proposed) → Answers x.count next r → Proposes chain staged refused w hs ts s count low hs' ts' r
+      (held_back x.first s.next (held_back low s.next (cond full? x.next (greater x.next (next_height s.tip)))))
+      → (r : Option Request) → Answers x.count next r → Proposes chain staged refused w hs ts s count low hs' ts' r
   proposes_scanned clean full? c f next e r a = λ l t d hs₀ ts₀ g.
       let y = drawn l t d hs₀ ts₀ g in
       planned (request_from l t (scan_says s) d) t (scan_end l t (scan_says s) d).asks _ next x.count hs₀ ts₀ hs' ts' r (requested l t d hs₀ ts₀ g) y.count
@@ -149,7 +153,7 @@ module _ (chain staged refused : List ℕ) (w : Window) (hs ts hs' ts' : List �
 -- ---- for callers: what `scan_of` answers is a scan that may be made
 
 pub plannable : (ws chain hs ts index : List ℕ) (r : RequestScan) (tip start best floor batch count bytes : ℕ)
-    → scan_says r ≡ scan_at tip start best floor batch count bytes (window_of ws) → 4 * suc tip ≤ length chain → tip ≤ max_height → batch ≤ 256 → count ≤ 256
+    → scan_says r ≡ scan_at tip start best floor batch count bytes (window_of ws) → 4 * suc tip ≤ length chain → r.tip ≤ max_height → batch ≤ 256 → count ≤ 256
     → Indexed count hs index → 1024 ≤ length hs → 256 ≤ length ts → Plannable ws chain hs ts index r count
 plannable ws chain hs ts index r tip start best floor batch count bytes e long top few room plan h k =
     let f = (window_of ws).frontier in
@@ -160,7 +164,7 @@ plannable ws chain hs ts index r tip start best floor batch count bytes e long t
     let below : r.tip ≤ tip = omega (arith, low, lesser_le_first tip best) in
     record {
       reaches = omega (arith, long, below);
-      top = omega (arith, top, below);
+      top = top;
       frontier = next;
       above = omega (arith, next, height, second_le_greater start f, greater_max (greater start f) floor);
       plan = plan;

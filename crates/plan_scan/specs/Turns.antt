@@ -1,5 +1,5 @@
 -- The scan's loop: what holds at its head, its turn and its two ends. Assumes nothing.
-use Rattle.std.specs.Prelude.{◌≡◌, refl, ℕ, zero, suc, ◌+◌, ◌*◌, ◌-◌, ◌≤◌, ◌<◌, length, take, get_or, None}
+use Rattle.std.specs.Prelude.{◌≡◌, refl, ℕ, zero, suc, ◌+◌, ◌*◌, ◌-◌, ◌≤◌, ◌<◌, length, take, get_or, None, Option}
 use Rattle.std.proofs.Common.{sym, ◌∙◌, not-suc-le-zero, le_of_suc-le-suc, take-append-drop, take-suc, take_all, get_or-take}
 use Rattle.std.proofs.Math.Path.{ap, subst}
 use mathlib.Core.List.{List, [], ◌∷◌, ◌++◌}
@@ -62,7 +62,7 @@ module _ (es : List Entry) (chain staged refused hs₁ ts₁ ix₁ : List ℕ) (
   abbrev state_at : List Ask → ℕ → Scanned
   state_at asks height = scan_over es staged refused (take (height - from) (contiguous_request_entries from last chain)) (scanned asks None frontier (full - count))
 
-  pub record Turning (height n first next : ℕ) (hs ts ix : List ℕ) : Type 0 where
+  pub record Turning (height n : ℕ) (first : Option ℕ) (next : ℕ) (hs ts ix : List ℕ) : Type 0 where
     pub start : from ≤ height
     pub some : n ≤ full
     pub plan : Indexed n hs ix
@@ -73,7 +73,7 @@ module _ (es : List Entry) (chain staged refused hs₁ ts₁ ix₁ : List ℕ) (
         → Drawn (state_at asks height) hs₀ ts₀ full n first next hs ts
 
   module _ (s : Scannable chain hs₁ ts₁ ix₁ last count full) where
-    pub turning_start : Turning from count 0 frontier hs₁ ts₁ ix₁
+    pub turning_start : Turning from count None frontier hs₁ ts₁ ix₁
     unfolding scan_over
     turning_start = record {
       start = omega arith;
@@ -84,15 +84,15 @@ module _ (es : List Entry) (chain staged refused hs₁ ts₁ ix₁ : List ℕ) (
       index = refl;
       drawn = λ asks hs₀ ts₀ e p q.
           let z : from - from ≡ 0 = omega arith in
-          subst (λ (n : ℕ). Drawn (scan_over es staged refused (take n (contiguous_request_entries from last chain)) (scanned asks None frontier (full - count))) hs₀ ts₀ full count 0 frontier hs₁ ts₁) (sym z)
+          subst (λ (n : ℕ). Drawn (scan_over es staged refused (take n (contiguous_request_entries from last chain)) (scanned asks None frontier (full - count))) hs₀ ts₀ full count None frontier hs₁ ts₁) (sym z)
           (record { count = e; room = omega (arith, s.more); first = refl; next = refl; hashes = p; heights = q });
     }
 
-    module _ (height n first next : ℕ) (hs ts ix : List ℕ) (t : Turning height n first next hs ts ix) where
+    module _ (height n : ℕ) (first : Option ℕ) (next : ℕ) (hs ts ix : List ℕ) (t : Turning height n first next hs ts ix) where
       pub turning_step : height ≤ last → (n ≡ full → ⊥) → (h : Hash) → h ≡ hash_in chain (4 * height) → (k : Look)
           → k ≡ look_of (passes es staged (take n (hashes_in hs)) (ask h height)) (names refused h)
           → (hs' ts' ix' : List ℕ) → hs' ≡ words_after k (4 * n) (hash_words h) hs → ts' ≡ words_after k n (height ∷ []) ts → Indexed (count_after k n) hs' ix'
-          → length hs' ≡ length hs → length ts' ≡ length ts → length ix' ≡ length ix → (n' first' next' : ℕ)
+          → length hs' ≡ length hs → length ts' ≡ length ts → length ix' ≡ length ix → (n' : ℕ) (first' : Option ℕ) (next' : ℕ)
           → n' ≡ count_after k n → first' ≡ first_after k first height → next' ≡ next_past k next height → Turning (height + 1) n' first' next' hs' ts' ix'
       unfolding scan_over
       turning_step b w h e k by hs' ts' ix' eh et plan lh lt li n' first' next' en ef ex = record {

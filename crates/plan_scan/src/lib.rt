@@ -1,18 +1,21 @@
 // Request 02: what is left of a plan once the swept ones are in it and the frontier is rewound: the clean stretch and the scan, over words that hold a window.
-// The chain, and the staged and refused hashes, are lists of four words a hash; each list that is asked whether it names a hash has an index (crate
-// `listed`). The plan is in two lent lists, `hashes` and `heights`, with its own index; `count` asks are in them already.
+// The chain is a list of four words a hash; the staged and refused hashes are lists with an index each (crate `listed`). The plan is in two lent lists,
+// `hashes` and `heights`, with its own index; `count` asks are in them already.
 #![tactic(auto)]
 
-ghost use Rattle.std.specs.Prelude.{◌≡◌, cond, ◌&&◌, ◌+◌, ◌-◌, ◌<◌, ◌≤◌, length, eqb, ltb, leb};
+ghost use Rattle.std.specs.Prelude.{◌≡◌, cond, ◌&&◌, ◌+◌, ◌-◌, ◌<◌, ◌≤◌, eqb, ltb, leb};
 ghost use Rattle.model.specs.Numbers.{lesser, greater, next_height, max_height};
 ghost use Rattle.model.specs.Hash.{base};
 ghost use Rattle.model.specs.Planning.{held_back};
 ghost use Rattle.model.specs.Layout.{window_of};
-ghost use Rattle.plan_look.specs.Plan.{height_of};
+ghost use Rattle.model.specs.Says.{request_values};
 ghost use Rattle.plan_look.specs.Steps.{Asked};
-ghost use Rattle.plan_scan.specs.Promises.{Scannable, Scans, Plannable, Proposes, scan_says, scan_at};
+ghost use Rattle.plan_scan.specs.Request.{is_unknown};
+ghost use Rattle.plan_scan.specs.Promises.{Scannable, Scans, Plannable, Proposes, plan_numbers, scan_says, scan_at};
 
+use listed::Listed;
 use model::sizes::HASH_WORDS;
+use model::{Request, Words};
 
 // The Rust's `RequestScan`.
 #[derive(Clone, Copy)]
@@ -23,24 +26,17 @@ pub struct RequestScan {
     pub next: u64,
 }
 
-// How many asks the plan has, and its next height; no request where there are none.
-#[derive(Clone, Copy)]
-pub struct Proposed {
-    pub count: usize,
-    pub next: u64,
-}
-
-// How far the scan came: the asks in the plan, the first refused height that it met (0 for none, n + 1 for n), the next height.
+// How far the scan came: the asks in the plan, the first refused height that it met, the next height.
 #[derive(Clone, Copy)]
 struct Scanning {
     count: usize,
-    first: u64,
+    first: Option<u64>,
     next: u64,
 }
 
 // `scan_of`: `batch` asks may be made, and `count` are in the plan, for which `bytes` are left.
 pub fn scan_of(
-    words: &[u64],
+    words: &Words,
     tip: u64,
     start: u64,
     best: u64,
@@ -49,15 +45,15 @@ pub fn scan_of(
     count: usize,
     bytes: u64,
 ) -> RequestScan
-    requires { (length words.now ≡ 4096) × (0 < (window_of words.now).mean) }
-    ensures { scan_says result ≡ scan_at tip start best floor batch count bytes (window_of words.now) }
+    requires { 0 < (window_of words.now).mean }
+    ensures { (scan_says result ≡ scan_at tip start best floor batch count bytes (window_of words.now)) × (tip ≤ max_height → result.tip ≤ max_height) }
 {
     let frontier = state::get_frontier(words);
     let mean = state::get_mean(words);
     let above = numbers::greater(start, frontier);
     let height = numbers::greater(above, floor);
     let top = numbers::lesser(tip, best);
-    let room = numbers::minus(batch, count as u64);
+    let room = batch.saturating_sub(count as u64);
     let limit = numbers::lesser(room, bytes / mean);
     RequestScan {
         height,
@@ -71,12 +67,10 @@ pub fn scan_of(
 
 // `scan_over` the heights from `from` to `last`, until the plan has `full` asks.
 fn scan_chain(
-    words: &[u64],
+    words: &Words,
     chain: &[u64],
-    staged: &[u64],
-    staged_index: &[u32],
-    refused: &[u64],
-    refused_index: &[u32],
+    staged: Listed,
+    refused: Listed,
     hashes: &mut [u64],
     heights: &mut [u32],
     index: &mut [u32],
@@ -86,11 +80,11 @@ fn scan_chain(
     full: usize,
     frontier: u64,
 ) -> Scanning
-    requires { Asked words.now staged.now staged_index.now refused.now refused_index.now × Scannable chain.now hashes.old heights.old index.old last count full }
-    ensures { Scans (window_of words.now).queue.pending chain.now staged.now refused.now hashes.old heights.old from last count full frontier hashes.new heights.new result }
+    requires { Asked words.now × Scannable chain.now hashes.old heights.old index.old last count full }
+    ensures { Scans (window_of words.now).queue.pending chain.now staged.entry.hashes.now refused.entry.hashes.now hashes.old heights.old from last count full frontier hashes.new heights.new result }
 {
     let mut n = count;
-    let mut first: u64 = 0;
+    let mut first = None;
     let mut next = frontier;
     for height in from..=last {
         if n == full {
@@ -101,21 +95,11 @@ fn scan_chain(
             };
         }
         let h = requests::hash_in(chain, HASH_WORDS * height as usize);
-        let k = plan_look::look_at(
-            words,
-            staged,
-            staged_index,
-            refused,
-            refused_index,
-            hashes,
-            index,
-            n,
-            h,
-        );
-        plan_look::take_at(k, hashes, heights, index, n, h, height);
-        n = plan_look::count_after(k, n);
-        first = plan_look::first_after(k, first, height);
-        next = plan_look::next_past(k, next, height);
+        let k = plan_look::look_at(words, staged, refused, hashes, index, n, h);
+        k.take_at(hashes, heights, index, n, h, height);
+        n = k.count_after(n);
+        first = k.first_after(first, height);
+        next = k.next_past(next, height);
     }
     Scanning {
         count: n,
@@ -145,13 +129,6 @@ fn held_back(low: Option<u64>, frontier: u64, next: u64) -> u64
     }
 }
 
-// `height_of`
-fn height_of(first: u64) -> Option<u64>
-    ensures { result ≡ height_of first }
-{
-    first.checked_sub(1)
-}
-
 // `ended`: past all that the peer has, where less was found than wanted.
 fn ended(is_full: bool, next: u64, tip: u64) -> u64
     requires { tip ≤ max_height }
@@ -168,23 +145,23 @@ fn next_scanned(
     is_full: bool,
     tip: u64,
     low: Option<u64>,
-    first: u64,
+    first: Option<u64>,
     frontier: u64,
     next: u64,
 ) -> u64
     requires { tip ≤ max_height }
-    ensures { result ≡ held_back (height_of first) frontier (held_back low frontier (cond is_full next (greater next (next_height tip)))) }
+    ensures { result ≡ held_back first frontier (held_back low frontier (cond is_full next (greater next (next_height tip)))) }
 {
     let end = ended(is_full, next, tip);
     let held = held_back(low, frontier, end);
-    held_back(height_of(first), frontier, held)
+    held_back(first, frontier, held)
 }
 
 // Whether nothing is taken, pending or staged, and no refused one was met: a clean stretch.
-fn met_none(taken: usize, pending: usize, staged: usize, first: u64) -> bool
-    ensures { result ≡ (eqb taken 0 && (eqb pending 0 && (eqb staged 0 && eqb first 0))) }
+fn met_none(taken: usize, pending: usize, staged: usize, first: Option<u64>) -> bool
+    ensures { result ≡ (eqb taken 0 && (eqb pending 0 && (eqb staged 0 && is_unknown first))) }
 {
-    (taken == 0) & ((pending == 0) & ((staged == 0) & (first == 0)))
+    (taken == 0) & ((pending == 0) & ((staged == 0) & first.is_none()))
 }
 
 // The next height: a clean stretch is not held back.
@@ -194,12 +171,12 @@ fn next_from(
     last: u64,
     tip: u64,
     low: Option<u64>,
-    first: u64,
+    first: Option<u64>,
     frontier: u64,
     next: u64,
 ) -> u64
     requires { (last ≤ max_height) × (tip ≤ max_height) }
-    ensures { result ≡ cond clean (greater frontier (next_height last)) (held_back (height_of first) frontier (held_back low frontier (cond is_full next (greater next (next_height tip))))) }
+    ensures { result ≡ cond clean (greater frontier (next_height last)) (held_back first frontier (held_back low frontier (cond is_full next (greater next (next_height tip))))) }
 {
     if clean {
         return numbers::greater(frontier, numbers::next_height(last));
@@ -210,13 +187,16 @@ fn next_from(
 // ---- the request
 
 // `non_empty_request`
-fn non_empty_request(count: usize, next: u64) -> Proposed
-    ensures { (result.count ≡ count) × (result.next ≡ cond (eqb count 0) 0 next) }
+fn non_empty_request(count: usize, next: u64) -> Option<Request>
+    ensures { request_values result ≡ plan_numbers count next }
 {
     if count == 0 {
-        return Proposed { count, next: 0 };
+        return None;
     }
-    Proposed { count, next }
+    Some(Request {
+        count: count as u64,
+        next_height: next,
+    })
 }
 
 // Whether there is a height to look at, and something is wanted.
@@ -228,33 +208,29 @@ fn scans(height: u64, tip: u64, limit: u64) -> bool
 
 // `request_from`, where there is something to scan.
 fn request_by_scan(
-    words: &[u64],
+    words: &Words,
     chain: &[u64],
-    staged: &[u64],
-    staged_index: &[u32],
-    refused: &[u64],
-    refused_index: &[u32],
+    staged: Listed,
+    refused: Listed,
     hashes: &mut [u64],
     heights: &mut [u32],
     index: &mut [u32],
     scan: RequestScan,
     count: usize,
     low: Option<u64>,
-) -> Proposed
-    requires { Asked words.now staged.now staged_index.now refused.now refused_index.now × (Plannable words.now chain.now hashes.old heights.old index.old scan count × ((scan.height ≤ scan.tip) × (0 < scan.limit))) }
-    ensures { Proposes chain.now staged.now refused.now (window_of words.now) hashes.old heights.old scan count low hashes.new heights.new result }
+) -> Option<Request>
+    requires { Asked words.now × (Plannable words.now chain.now hashes.old heights.old index.old scan count × ((scan.height ≤ scan.tip) × (0 < scan.limit))) }
+    ensures { Proposes chain.now staged.entry.hashes.now refused.entry.hashes.now (window_of words.now) hashes.old heights.old scan count low hashes.new heights.new result }
 {
     let pending = state_queue::pending_count(words);
-    let held = staged.len() / HASH_WORDS;
+    let held = staged.len();
     let last = reach(scan.height, scan.tip, scan.limit, pending, held, count);
     let full = count + scan.limit as usize;
     let r = scan_chain(
         words,
         chain,
         staged,
-        staged_index,
         refused,
-        refused_index,
         hashes,
         heights,
         index,
@@ -274,38 +250,25 @@ fn request_by_scan(
 
 // `request_from`: asks and next height, of every step that leaves this window and every draft with this plan.
 pub fn request_from(
-    words: &[u64],
+    words: &Words,
     chain: &[u64],
-    staged: &[u64],
-    staged_index: &[u32],
-    refused: &[u64],
-    refused_index: &[u32],
+    staged: Listed,
+    refused: Listed,
     hashes: &mut [u64],
     heights: &mut [u32],
     index: &mut [u32],
     scan: RequestScan,
     count: usize,
     low: Option<u64>,
-) -> Proposed
-    requires { Asked words.now staged.now staged_index.now refused.now refused_index.now × Plannable words.now chain.now hashes.old heights.old index.old scan count }
-    ensures { Proposes chain.now staged.now refused.now (window_of words.now) hashes.old heights.old scan count low hashes.new heights.new result }
+) -> Option<Request>
+    requires { Asked words.now × Plannable words.now chain.now hashes.old heights.old index.old scan count }
+    ensures { Proposes chain.now staged.entry.hashes.now refused.entry.hashes.now (window_of words.now) hashes.old heights.old scan count low hashes.new heights.new result }
 {
     if !scans(scan.height, scan.tip, scan.limit) {
         let next = held_back(low, scan.next, scan.next);
         return non_empty_request(count, next);
     }
     request_by_scan(
-        words,
-        chain,
-        staged,
-        staged_index,
-        refused,
-        refused_index,
-        hashes,
-        heights,
-        index,
-        scan,
-        count,
-        low,
+        words, chain, staged, refused, hashes, heights, index, scan, count, low,
     )
 }

@@ -1,5 +1,5 @@
 -- A request after the sweep: what the code asks and gives there, and the laws of its cases. Assumes nothing.
-use Rattle.std.specs.Prelude.{◌≡◌, Bool, true, false, ◌||◌, ℕ, suc, ◌-◌, ◌*◌, ◌≤◌, length, eqb, ltb}
+use Rattle.std.specs.Prelude.{◌≡◌, Bool, true, false, ◌||◌, ℕ, suc, ◌-◌, ◌*◌, ◌≤◌, length, eqb, ltb, None}
 use Rattle.std.proofs.Math.Path.{refl, sym, subst}
 use Rattle.std.proofs.Common.{ap, ◌∙◌, arith}
 use Rattle.std.proofs.Math.Bool.{cond}
@@ -13,7 +13,9 @@ use Rattle.model.specs.Time.{peer_has_expired_pending}
 use Rattle.model.specs.Cooling.{peer_in_staller_cooldown}
 use Rattle.model.specs.LettingGo.{expire_pending}
 use Rattle.model.specs.Planning.{Lent, Proposal, no_request, request_by, request_after, next_peer_request_allowing_retry, next_peer_request, ask_hashes, ask_heights, written}
+use Rattle.model.specs.Says.{request_values}
 use Rattle.model.specs.declared.Release.{Release}
+use Rattle.model.specs.declared.NextRequest.{NextRequest}
 use Rattle.laws.specs.Numbers.{lesser_le_first, lesser_le_second}
 use Rattle.laws.specs.Every.{blocks_le}
 use Rattle.laws.specs.Sound.{Sound}
@@ -22,7 +24,6 @@ use Rattle.laws.proofs.Lets.{expire_lets}
 use Rattle.report_words.specs.Report.{releases_of}
 use Rattle.batch.specs.Resets.{Went}
 use Rattle.swept_order.specs.Keys.{low_height, swept_heights}
-use Rattle.planning.specs.declared.Proposed.{Proposed}
 use Rattle.planning.specs.Proposes.{lent, Ready, Proposes}
 
 -- ---- what the code asks and gives
@@ -31,7 +32,7 @@ abbrev pub step : Window → List Release → Step
 step w gs = record { window = w; gone = gs }
 
 -- words that were swept, at some clock: n releases stand in `gone`
-pub record Swept (n : ℕ) (ws gone hs ts chain : List ℕ) (tip : ℕ) : Type 0 where
+pub record Swept (n : ℕ) (ws gone hs ts : List ℕ) (l : Lent) : Type 0 where
   pub clock : ℕ
   pub whole : Whole ws
   pub sound : Sound clock (window_of ws)
@@ -40,28 +41,34 @@ pub record Swept (n : ℕ) (ws gone hs ts chain : List ℕ) (tip : ℕ) : Type 0
   pub low : Went low_height (releases_of n gone)
   pub hashes : 1024 ≤ length hs
   pub heights : 256 ≤ length ts
-  pub reaches : length chain ≡ 4 * suc tip
+  pub reaches : length l.chain ≡ 4 * suc l.tip
+
+-- the same lists and heights, whatever else is said of the window's room
+abbrev pub with_room : Lent → Bool → ℕ → ℕ → Lent
+with_room l exhausted bytes count = lent l.chain l.tip l.start l.best l.floor l.staged l.refused exhausted bytes count
 
 -- the proposal of a capacity for `batch` entries of `bytes` in all; what else is said of the window's room is not read
-abbrev pub Requests : ℕ → List ℕ → List ℕ → List ℕ → ℕ → ℕ → ℕ → ℕ → List ℕ → List ℕ → ℕ → ℕ → Proposed → List ℕ → List ℕ → List ℕ → List ℕ → List ℕ → Type 0
-Requests n ws gone chain tip start best floor staged refused batch bytes r ws' hashes hashes' heights heights' =
+abbrev pub Requests : ℕ → List ℕ → List ℕ → Lent → ℕ → ℕ → NextRequest → List ℕ → List ℕ → List ℕ → List ℕ → List ℕ → Type 0
+Requests n ws gone l batch bytes r ws' hashes hashes' heights heights' =
     (exhausted : Bool) (byte_headroom count_headroom : ℕ)
-    → Proposes (request_by (capacity batch bytes) (lent chain tip start best floor staged refused exhausted byte_headroom count_headroom) (step (window_of ws) (releases_of n gone))) r
+    → Proposes (request_by (capacity batch bytes) (with_room l exhausted byte_headroom count_headroom) (step (window_of ws) (releases_of n gone))) r
     ws' gone hashes hashes' heights heights'
 
 -- the proposal of what capacity there is
-abbrev pub RequestsAfter : ℕ → ℕ → List ℕ → List ℕ → List ℕ → ℕ → ℕ → ℕ → ℕ → List ℕ → List ℕ → ℕ → ℕ → Proposed → List ℕ → List ℕ → List ℕ → List ℕ → List ℕ → Type 0
-RequestsAfter source n ws gone chain tip start best floor staged refused byte_headroom count_headroom r ws' hashes hashes' heights heights' =
+abbrev pub RequestsAfter : ℕ → ℕ → List ℕ → List ℕ → Lent → NextRequest → List ℕ → List ℕ → List ℕ → List ℕ → List ℕ → Type 0
+RequestsAfter source n ws gone l r ws' hashes hashes' heights heights' =
     (exhausted : Bool)
-    → Proposes (request_after source (lent chain tip start best floor staged refused exhausted byte_headroom count_headroom) (step (window_of ws) (releases_of n gone))) r
+    → Proposes (request_after source (with_room l exhausted l.bytes l.count) (step (window_of ws) (releases_of n gone))) r
     ws' gone hashes hashes' heights heights'
 
 -- ---- nothing is planned
 
 pub none_planned : (n : ℕ) (gs : List Release) (ws gone hashes heights : List ℕ) → n ≤ 256 → releases_of n gone ≡ gs → Whole ws
-    → Proposes (no_request (step (window_of ws) gs)) (record { gone = n; count = 0; next = 0 }) ws gone hashes hashes heights heights
+    → (r : NextRequest) → (r.places ≡ n) × (r.request ≡ None)
+    → Proposes (no_request (step (window_of ws) gs)) r ws gone hashes hashes heights heights
 unfolding ask_hashes ask_heights written
-none_planned n gs ws gone hashes heights few e h = (few, holds_whole ws h, e, refl, refl, refl, refl)
+none_planned n gs ws gone hashes heights few e h r q =
+    (omega (arith, q.0), holds_whole ws h, ap (λ (k : ℕ). releases_of k gone) q.0 ∙ e, refl, refl, ap request_values q.1)
 
 -- ---- the capacity
 
@@ -92,34 +99,34 @@ batch_few source byte_headroom count_headroom batch bytes w ok e =
     let q = some_by (eqb k 0 || ltb y w.mean) k y batch bytes e in
     omega (arith, q, limit_few source count_headroom w ok)
 
-module _ (source n : ℕ) (ws gone chain : List ℕ) (tip start best floor : ℕ) (staged refused : List ℕ) (byte_headroom count_headroom : ℕ) (r : Proposed) (ws' hashes hashes' heights heights' : List ℕ) where
+module _ (source n : ℕ) (ws gone : List ℕ) (l : Lent) (r : NextRequest) (ws' hashes hashes' heights heights' : List ℕ) where
   abbrev swept : Step
   swept = step (window_of ws) (releases_of n gone)
 
   abbrev lends : Bool → Lent
-  lends exhausted = lent chain tip start best floor staged refused exhausted byte_headroom count_headroom
+  lends exhausted = with_room l exhausted l.bytes l.count
 
-  after_by : (k : Capacity) → k ≡ compute_request_capacity source byte_headroom count_headroom (window_of ws)
+  after_by : (k : Capacity) → k ≡ compute_request_capacity source l.bytes l.count (window_of ws)
       → ((exhausted : Bool) → Proposes (request_by k (lends exhausted) swept) r ws' gone hashes hashes' heights heights')
-      → RequestsAfter source n ws gone chain tip start best floor staged refused byte_headroom count_headroom r ws' hashes hashes' heights heights'
+      → RequestsAfter source n ws gone l r ws' hashes hashes' heights heights'
   unfolding request_after
   after_by k e h = λ exhausted. subst (λ (x : Capacity). Proposes (request_by x (lends exhausted) swept) r ws' gone hashes hashes' heights heights') e (h exhausted)
 
-  pub after_some : (batch bytes : ℕ) → capacity batch bytes ≡ compute_request_capacity source byte_headroom count_headroom (window_of ws)
-      → Requests n ws gone chain tip start best floor staged refused batch bytes r ws' hashes hashes' heights heights'
-      → RequestsAfter source n ws gone chain tip start best floor staged refused byte_headroom count_headroom r ws' hashes hashes' heights heights'
-  after_some batch bytes e h = after_by (capacity batch bytes) e (λ exhausted. h exhausted byte_headroom count_headroom)
+  pub after_some : (batch bytes : ℕ) → capacity batch bytes ≡ compute_request_capacity source l.bytes l.count (window_of ws)
+      → Requests n ws gone l batch bytes r ws' hashes hashes' heights heights'
+      → RequestsAfter source n ws gone l r ws' hashes hashes' heights heights'
+  after_some batch bytes e h = after_by (capacity batch bytes) e (λ exhausted. h exhausted l.bytes l.count)
 
-  pub after_none : no_capacity ≡ compute_request_capacity source byte_headroom count_headroom (window_of ws)
+  pub after_none : no_capacity ≡ compute_request_capacity source l.bytes l.count (window_of ws)
       → Proposes (no_request swept) r ws' gone hashes hashes' heights heights'
-      → RequestsAfter source n ws gone chain tip start best floor staged refused byte_headroom count_headroom r ws' hashes hashes' heights heights'
+      → RequestsAfter source n ws gone l r ws' hashes hashes' heights heights'
   after_none e h = after_by no_capacity e (λ exhausted. h)
 
 -- ---- the sweep
 
 module _ (source clock n : ℕ) (ws ws₁ gone : List ℕ) (e : Holds (expire_pending clock (window_of ws)).window ws₁) (q : releases_of n gone ≡ (expire_pending clock (window_of ws)).gone) where
-  pub swept_sound : (chain hs ts old : List ℕ) (tip : ℕ) → Ready clock source ws old hs ts chain tip → n ≤ 256 → length gone ≡ length old → Swept n ws₁ gone hs ts chain tip
-  swept_sound chain hs ts old tip p few long = record {
+  pub swept_sound : (hs ts old : List ℕ) (l : Lent) → Ready clock source ws old hs ts l → n ≤ 256 → length gone ≡ length old → Swept n ws₁ gone hs ts l
+  swept_sound hs ts old l p few long = record {
     clock = clock;
     whole = e.whole;
     sound = subst (Sound clock) (sym e.is) (expire_lets p.1).sound;
@@ -138,7 +145,7 @@ module _ (source clock n : ℕ) (ws ws₁ gone : List ℕ) (e : Holds (expire_pe
         (λ i. request_after source l (step (e.is i) (q i)))
         ∙ sym (ap (λ (b : Bool). cond b (no_request (stay (window_of ws))) (request_after source l (expire_pending clock (window_of ws)))) x)
 
-    pub retry_planned : (r : Proposed) (ws₂ hs hs' ts ts' : List ℕ) → Proposes (request_after source l (step (window_of ws₁) (releases_of n gone))) r ws₂ gone hs hs' ts ts'
+    pub retry_planned : (r : NextRequest) (ws₂ hs hs' ts ts' : List ℕ) → Proposes (request_after source l (step (window_of ws₁) (releases_of n gone))) r ws₂ gone hs hs' ts ts'
         → Proposes (next_peer_request_allowing_retry source l clock (window_of ws)) r ws₂ gone hs hs' ts ts'
     retry_planned r ws₂ hs hs' ts ts' h = subst (λ (p : Proposal). Proposes p r ws₂ gone hs hs' ts ts') retry_swept h
 
@@ -148,16 +155,19 @@ module _ (source clock : ℕ) (l : Lent) (ws gone hs ts : List ℕ) (g : Whole w
   abbrev w : Window
   w = window_of ws
 
-  -- the proposal that is made of nothing
-  none_by : (p : Proposal) → no_request (stay w) ≡ p → Proposes p (record { gone = 0; count = 0; next = 0 }) ws gone hs hs ts ts
-  unfolding releases_of
-  none_by p e =
-      subst (λ (x : Proposal). Proposes x (record { gone = 0; count = 0; next = 0 }) ws gone hs hs ts ts) e (none_planned 0 [] ws gone hs ts (omega arith) refl g)
+  -- an answer that says nothing
+  abbrev pub SaysNone : NextRequest → Type 0
+  SaysNone r = (r.places ≡ 0) × (r.request ≡ None)
 
-  pub retry_exhausted : l.exhausted ≡ true → Proposes (next_peer_request_allowing_retry source l clock w) (record { gone = 0; count = 0; next = 0 }) ws gone hs hs ts ts
+  -- the proposal that is made of nothing
+  none_by : (p : Proposal) (r : NextRequest) → SaysNone r → no_request (stay w) ≡ p → Proposes p r ws gone hs hs ts ts
+  unfolding releases_of
+  none_by p r q e = subst (λ (x : Proposal). Proposes x r ws gone hs hs ts ts) e (none_planned 0 [] ws gone hs ts (omega arith) refl g r q)
+
+  pub retry_exhausted : (r : NextRequest) → SaysNone r → l.exhausted ≡ true → Proposes (next_peer_request_allowing_retry source l clock w) r ws gone hs hs ts ts
   unfolding next_peer_request_allowing_retry
-  retry_exhausted x =
-      none_by (next_peer_request_allowing_retry source l clock w) (sym (ap (λ (b : Bool). cond b (no_request (stay w)) (request_after source l (expire_pending clock w))) x))
+  retry_exhausted r q x =
+      none_by (next_peer_request_allowing_retry source l clock w) r q (sym (ap (λ (b : Bool). cond b (no_request (stay w)) (request_after source l (expire_pending clock w))) x))
 
   -- by whether the peer is expired, and whether it is cooling
   by_peer : (a b : Bool) → a ≡ peer_has_expired_pending source clock w → b ≡ peer_in_staller_cooldown source clock w
@@ -165,13 +175,13 @@ module _ (source clock : ℕ) (l : Lent) (ws gone hs ts : List ℕ) (g : Whole w
   unfolding next_peer_request
   by_peer a b x y = λ i. cond (x i || y i) (no_request (stay w)) (next_peer_request_allowing_retry source l clock w)
 
-  pub request_expired : (a : Bool) → a ≡ peer_has_expired_pending source clock w → a ≡ true
-      → Proposes (next_peer_request source l clock w) (record { gone = 0; count = 0; next = 0 }) ws gone hs hs ts ts
-  request_expired a x t = none_by (next_peer_request source l clock w) (by_peer true (peer_in_staller_cooldown source clock w) (sym t ∙ x) refl)
+  pub request_expired : (r : NextRequest) → SaysNone r → (a : Bool) → a ≡ peer_has_expired_pending source clock w → a ≡ true
+      → Proposes (next_peer_request source l clock w) r ws gone hs hs ts ts
+  request_expired r q a x t = none_by (next_peer_request source l clock w) r q (by_peer true (peer_in_staller_cooldown source clock w) (sym t ∙ x) refl)
 
   module _ (a b : Bool) (x : a ≡ peer_has_expired_pending source clock w) (y : b ≡ peer_in_staller_cooldown source clock w) (f : a ≡ false) where
-    pub request_cooling : b ≡ true → Proposes (next_peer_request source l clock w) (record { gone = 0; count = 0; next = 0 }) ws gone hs hs ts ts
-    request_cooling t = none_by (next_peer_request source l clock w) (by_peer false true (sym f ∙ x) (sym t ∙ y))
+    pub request_cooling : (r : NextRequest) → SaysNone r → b ≡ true → Proposes (next_peer_request source l clock w) r ws gone hs hs ts ts
+    request_cooling r q t = none_by (next_peer_request source l clock w) r q (by_peer false true (sym f ∙ x) (sym t ∙ y))
 
     pub request_free : b ≡ false → next_peer_request_allowing_retry source l clock w ≡ next_peer_request source l clock w
     request_free t = by_peer false false (sym f ∙ x) (sym t ∙ y)

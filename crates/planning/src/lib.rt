@@ -2,22 +2,38 @@
 // each, in `gone`, the plan in `hashes` and `heights`. The last clock is not set here: the public call does that last.
 #![tactic(auto)]
 
-ghost use Rattle.std.specs.Prelude.{◌≡◌, ◌/◌, ◌≤◌, length};
+ghost use Rattle.std.specs.Prelude.{◌≡◌, ◌≤◌, None};
 ghost use Rattle.model.specs.Layout.{window_of};
 ghost use Rattle.model.specs.Planning.{next_peer_request, next_peer_request_allowing_retry};
-ghost use Rattle.listed.specs.Index.{Sized, Empty, Indexed};
-ghost use Rattle.plan_lists.specs.Lists.{height_of};
-ghost use Rattle.planning.specs.Proposes.{lent, Ready, Proposes};
+ghost use Rattle.planning.specs.Proposes.{lent_by, planned_by, Ready, Proposes};
 ghost use Rattle.planning.specs.Swept.{Swept, Requests, RequestsAfter};
 
-use model::sizes;
+use listed::Listed;
+use model::{Gone, NextRequest, Words, sizes};
 
-// How many were swept; how many entries the request has, 0 for no request; its next height.
+// What is lent and said for one plan, beside the words and the plan's own lists. Each list has four words a hash.
 #[derive(Clone, Copy)]
-pub struct Proposed {
-    pub gone: usize,
-    pub count: usize,
-    pub next: u64,
+pub struct Given<'a> {
+    pub chain: &'a [u64],
+    pub tip: u32,
+    pub start: u32,
+    pub best: u32,
+    pub floor: u32,
+    pub staged: &'a [u64],
+    pub refused: &'a [u64],
+    pub exhausted: bool,
+    pub byte_headroom: u64,
+    pub count_headroom: u64,
+}
+
+// No request, of so many that were swept.
+fn no_request(n: usize) -> NextRequest
+    ensures { (result.places ≡ n) × (result.request ≡ None) }
+{
+    NextRequest {
+        places: n as u64,
+        request: None,
+    }
 }
 
 // ---- the indexes of the lists, in local arrays of two sizes
@@ -38,370 +54,159 @@ const MANY: usize = listed::BUCKETS + MANY_LINKS;
 // The index of a plan.
 const PLAN: usize = listed::BUCKETS + sizes::PLACES;
 
-fn index_lists(
-    index: &mut [u32],
-    staged: &[u64],
-    staged_index: &mut [u32],
-    refused: &[u64],
-    refused_index: &mut [u32],
-)
-    requires { Sized index.old × (Sized staged_index.old × Sized refused_index.old) }
-    ensures { Empty index.new
-        × (Indexed (length staged.now / 4) staged.now staged_index.new
-        × Indexed (length refused.now / 4) refused.now refused_index.new) }
-{
-    listed::clear(index);
-    listed::index_list(staged_index, staged);
-    listed::index_list(refused_index, refused);
-}
-
 // ---- a request by a capacity
 
-// `height_of`: a height that may be missing, of its number.
-fn height_of(low: u64) -> Option<u64>
-    ensures { result ≡ height_of low }
-{
-    low.checked_sub(1)
-}
-
-// `request_by` a capacity, over the indexes that are lent: the swept ones, the frontier, then the scan.
-fn plan_with(
-    words: &mut [u64],
-    gone: &[u64],
+// `request_by` a capacity: the swept ones, the frontier, then the scan. The indexes of the staged and of the refused have so many words.
+fn plan_with<const N: usize>(
+    words: &mut Words,
+    gone: &Gone,
     n: usize,
     hashes: &mut [u64],
     heights: &mut [u32],
-    index: &mut [u32],
-    chain: &[u64],
-    tip: u32,
-    start: u32,
-    best: u32,
-    floor: u32,
-    staged: &[u64],
-    staged_index: &mut [u32],
-    refused: &[u64],
-    refused_index: &mut [u32],
+    given: Given,
     batch: u64,
     bytes: u64,
-) -> Proposed
-    requires { (Swept n words.old gone.now hashes.old heights.old chain.now tip × (batch ≤ 256))
-        × (Sized index.old × (Sized staged_index.old × Sized refused_index.old)) }
-    ensures { Requests n words.old gone.now chain.now tip start best floor staged.now refused.now batch bytes result
-        words.new hashes.old hashes.new heights.old heights.new }
+) -> NextRequest
+    requires { (Swept n words.old gone.now hashes.old heights.old (lent_by given) × (batch ≤ 256)) × ((1024 ≤ N) × (N ≤ 4294967296)) }
+    ensures { Requests n words.old gone.now (lent_by given.entry) batch bytes result words.new hashes.old hashes.new heights.old heights.new }
 {
-    index_lists(index, staged, staged_index, refused, refused_index);
+    let mut index: [u32; PLAN] = [0; PLAN];
+    let mut staged_index: [u32; N] = [0; N];
+    let mut refused_index: [u32; N] = [0; N];
+    listed::clear(&mut index);
+    let staged = Listed::new(given.staged, &mut staged_index);
+    let refused = Listed::new(given.refused, &mut refused_index);
     let d = retries::expired_request_entries(
         words,
         gone,
         n,
         hashes,
         heights,
-        index,
+        &mut index,
         staged,
-        staged_index,
         refused,
-        refused_index,
-        floor as u64,
+        given.floor as u64,
         batch as usize,
         bytes,
     );
-    plan_look::maybe_rewind_request_frontier(words, chain, staged, staged_index, start as u64);
+    plan_look::maybe_rewind_request_frontier(words, given.chain, staged, given.start as u64);
     let s = plan_scan::scan_of(
         words,
-        tip as u64,
-        start as u64,
-        best as u64,
-        floor as u64,
+        given.tip as u64,
+        given.start as u64,
+        given.best as u64,
+        given.floor as u64,
         batch,
         d.count,
         d.bytes,
     );
-    let p = plan_scan::request_from(
+    let request = plan_scan::request_from(
         words,
-        chain,
+        given.chain,
         staged,
-        staged_index,
         refused,
-        refused_index,
         hashes,
         heights,
-        index,
+        &mut index,
         s,
         d.count,
-        height_of(d.low),
+        d.low,
     );
-    Proposed {
-        gone: n,
-        count: p.count,
-        next: p.next,
+    NextRequest {
+        places: n as u64,
+        request,
     }
-}
-
-// With short indexes.
-fn plan_with_few(
-    words: &mut [u64],
-    gone: &[u64],
-    n: usize,
-    hashes: &mut [u64],
-    heights: &mut [u32],
-    chain: &[u64],
-    tip: u32,
-    start: u32,
-    best: u32,
-    floor: u32,
-    staged: &[u64],
-    refused: &[u64],
-    batch: u64,
-    bytes: u64,
-) -> Proposed
-    requires { Swept n words.old gone.now hashes.old heights.old chain.now tip × (batch ≤ 256) }
-    ensures { Requests n words.old gone.now chain.now tip start best floor staged.now refused.now batch bytes result
-        words.new hashes.old hashes.new heights.old heights.new }
-{
-    let mut index: [u32; PLAN] = [0; PLAN];
-    let mut staged_index: [u32; FEW] = [0; FEW];
-    let mut refused_index: [u32; FEW] = [0; FEW];
-    plan_with(
-        words,
-        gone,
-        n,
-        hashes,
-        heights,
-        &mut index,
-        chain,
-        tip,
-        start,
-        best,
-        floor,
-        staged,
-        &mut staged_index,
-        refused,
-        &mut refused_index,
-        batch,
-        bytes,
-    )
-}
-
-// With long ones.
-fn plan_with_many(
-    words: &mut [u64],
-    gone: &[u64],
-    n: usize,
-    hashes: &mut [u64],
-    heights: &mut [u32],
-    chain: &[u64],
-    tip: u32,
-    start: u32,
-    best: u32,
-    floor: u32,
-    staged: &[u64],
-    refused: &[u64],
-    batch: u64,
-    bytes: u64,
-) -> Proposed
-    requires { Swept n words.old gone.now hashes.old heights.old chain.now tip × (batch ≤ 256) }
-    ensures { Requests n words.old gone.now chain.now tip start best floor staged.now refused.now batch bytes result
-        words.new hashes.old hashes.new heights.old heights.new }
-{
-    let mut index: [u32; PLAN] = [0; PLAN];
-    let mut staged_index: [u32; MANY] = [0; MANY];
-    let mut refused_index: [u32; MANY] = [0; MANY];
-    plan_with(
-        words,
-        gone,
-        n,
-        hashes,
-        heights,
-        &mut index,
-        chain,
-        tip,
-        start,
-        best,
-        floor,
-        staged,
-        &mut staged_index,
-        refused,
-        &mut refused_index,
-        batch,
-        bytes,
-    )
 }
 
 // `request_by` a capacity.
 fn request_by(
-    words: &mut [u64],
-    gone: &[u64],
+    words: &mut Words,
+    gone: &Gone,
     n: usize,
     hashes: &mut [u64],
     heights: &mut [u32],
-    chain: &[u64],
-    tip: u32,
-    start: u32,
-    best: u32,
-    floor: u32,
-    staged: &[u64],
-    refused: &[u64],
+    given: Given,
     batch: u64,
     bytes: u64,
-) -> Proposed
-    requires { Swept n words.old gone.now hashes.old heights.old chain.now tip × (batch ≤ 256) }
-    ensures { Requests n words.old gone.now chain.now tip start best floor staged.now refused.now batch bytes result
-        words.new hashes.old hashes.new heights.old heights.new }
+) -> NextRequest
+    requires { Swept n words.old gone.now hashes.old heights.old (lent_by given) × (batch ≤ 256) }
+    ensures { Requests n words.old gone.now (lent_by given.entry) batch bytes result words.new hashes.old hashes.new heights.old heights.new }
 {
-    if (staged.len() <= FEW_WORDS) & (refused.len() <= FEW_WORDS) {
-        return plan_with_few(
-            words, gone, n, hashes, heights, chain, tip, start, best, floor, staged, refused,
-            batch, bytes,
-        );
+    if (given.staged.len() <= FEW_WORDS) & (given.refused.len() <= FEW_WORDS) {
+        return plan_with::<FEW>(words, gone, n, hashes, heights, given, batch, bytes);
     }
-    plan_with_many(
-        words, gone, n, hashes, heights, chain, tip, start, best, floor, staged, refused, batch,
-        bytes,
-    )
+    plan_with::<MANY>(words, gone, n, hashes, heights, given, batch, bytes)
 }
 
 // `request_after`: n were swept.
 fn request_after(
-    words: &mut [u64],
-    gone: &[u64],
+    words: &mut Words,
+    gone: &Gone,
     n: usize,
     hashes: &mut [u64],
     heights: &mut [u32],
     source: u64,
-    chain: &[u64],
-    tip: u32,
-    start: u32,
-    best: u32,
-    floor: u32,
-    staged: &[u64],
-    refused: &[u64],
-    byte_headroom: u64,
-    count_headroom: u64,
-) -> Proposed
-    requires { Swept n words.old gone.now hashes.old heights.old chain.now tip }
-    ensures { RequestsAfter source n words.old gone.now chain.now tip start best floor staged.now refused.now byte_headroom count_headroom result
-        words.new hashes.old hashes.new heights.old heights.new }
+    given: Given,
+) -> NextRequest
+    requires { Swept n words.old gone.now hashes.old heights.old (lent_by given) }
+    ensures { RequestsAfter source n words.old gone.now (lent_by given.entry) result words.new hashes.old hashes.new heights.old heights.new }
 {
-    let b = queries::compute_request_capacity(words, source, byte_headroom, count_headroom);
-    match b {
-        None => Proposed {
-            gone: n,
-            count: 0,
-            next: 0,
-        },
-        Some((batch, bytes)) => request_by(
-            words, gone, n, hashes, heights, chain, tip, start, best, floor, staged, refused,
-            batch, bytes,
-        ),
+    let (byte_headroom, count_headroom) = (given.byte_headroom, given.count_headroom);
+    match queries::compute_request_capacity(words, source, byte_headroom, count_headroom) {
+        None => no_request(n),
+        Some((batch, bytes)) => { request_by(words, gone, n, hashes, heights, given, batch, bytes) }
     }
 }
 
 // ---- the two that plan
 
 // `next_peer_request_allowing_retry`
-pub fn next_peer_request_allowing_retry(
-    words: &mut [u64],
-    gone: &mut [u64],
+fn next_peer_request_allowing_retry(
+    words: &mut Words,
+    gone: &mut Gone,
     hashes: &mut [u64],
     heights: &mut [u32],
     source: u64,
-    chain: &[u64],
-    tip: u32,
-    start: u32,
-    best: u32,
-    floor: u32,
-    staged: &[u64],
-    refused: &[u64],
-    exhausted: bool,
-    byte_headroom: u64,
-    count_headroom: u64,
+    given: Given,
     clock: u64,
-) -> Proposed
-    requires { Ready clock source words.old gone.old hashes.old heights.old chain.now tip }
-    ensures { Proposes (next_peer_request_allowing_retry source (lent chain.now tip start best floor staged.now refused.now exhausted byte_headroom count_headroom) clock (window_of words.old)) result
+) -> NextRequest
+    requires { Ready clock source words.old gone.old hashes.old heights.old (lent_by given) }
+    ensures { Proposes (next_peer_request_allowing_retry source (lent_by given.entry) clock (window_of words.old)) result
         words.new gone.new hashes.old hashes.new heights.old heights.new }
 {
-    if exhausted {
-        return Proposed {
-            gone: 0,
-            count: 0,
-            next: 0,
-        };
+    if given.exhausted {
+        return no_request(0);
     }
     let n = sweep::expire_pending(words, gone, clock);
-    request_after(
-        words,
-        gone,
-        n,
-        hashes,
-        heights,
-        source,
-        chain,
-        tip,
-        start,
-        best,
-        floor,
-        staged,
-        refused,
-        byte_headroom,
-        count_headroom,
-    )
+    request_after(words, gone, n, hashes, heights, source, given)
 }
 
-// `next_peer_request`: an expired or cooling peer gets none.
+// `next_peer_request_allowing_retry`, or `next_peer_request`, by which an expired or cooling peer gets none.
 pub fn next_peer_request(
-    words: &mut [u64],
-    gone: &mut [u64],
+    words: &mut Words,
+    gone: &mut Gone,
     hashes: &mut [u64],
     heights: &mut [u32],
     source: u64,
-    chain: &[u64],
-    tip: u32,
-    start: u32,
-    best: u32,
-    floor: u32,
-    staged: &[u64],
-    refused: &[u64],
-    exhausted: bool,
-    byte_headroom: u64,
-    count_headroom: u64,
+    given: Given,
+    retry: bool,
     clock: u64,
-) -> Proposed
-    requires { Ready clock source words.old gone.old hashes.old heights.old chain.now tip }
-    ensures { Proposes (next_peer_request source (lent chain.now tip start best floor staged.now refused.now exhausted byte_headroom count_headroom) clock (window_of words.old)) result
+) -> NextRequest
+    requires { Ready clock source words.old gone.old hashes.old heights.old (lent_by given) }
+    ensures { Proposes (planned_by retry source (lent_by given.entry) clock (window_of words.old)) result
         words.new gone.new hashes.old hashes.new heights.old heights.new }
 {
+    if retry {
+        return next_peer_request_allowing_retry(words, gone, hashes, heights, source, given, clock);
+    }
     let seat = source as usize;
-    if sweep::peer_has_expired_pending(words, seat, clock) {
-        return Proposed {
-            gone: 0,
-            count: 0,
-            next: 0,
-        };
+    let expired = sweep::peer_has_expired_pending(words, seat, clock);
+    if expired {
+        return no_request(0);
     }
-    if state_cooling::in_cooldown(words, seat, clock) {
-        return Proposed {
-            gone: 0,
-            count: 0,
-            next: 0,
-        };
+    let cooling = state_cooling::in_cooldown(words, seat, clock);
+    if cooling {
+        return no_request(0);
     }
-    next_peer_request_allowing_retry(
-        words,
-        gone,
-        hashes,
-        heights,
-        source,
-        chain,
-        tip,
-        start,
-        best,
-        floor,
-        staged,
-        refused,
-        exhausted,
-        byte_headroom,
-        count_headroom,
-        clock,
-    )
+    next_peer_request_allowing_retry(words, gone, hashes, heights, source, given, clock)
 }

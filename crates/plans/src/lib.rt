@@ -1,13 +1,13 @@
 // The planned hashes, by value, a row of four words each: as they are answered, and written to the head.
 #![tactic(auto)]
 
-ghost use Rattle.std.specs.Prelude.{◌≡◌, length};
+ghost use Rattle.std.specs.Prelude.{◌≡◌};
 ghost use Rattle.model.specs.Layout.{decode};
 ghost use Rattle.model.specs.Places.{head_probe_hashes};
 ghost use Rattle.laws.specs.Tables.{with_words};
 ghost use Rattle.plans.specs.Rows.{rows_words, words_from};
 
-use model::{Plan, Refusal, head, sizes};
+use model::{Plan, Refusal, Words, head, sizes};
 
 // What `prefix_probe_plan` answers: the plan's numbers, or the refusal, and beside them the words of eight hashes, 0 after the planned ones.
 #[derive(Clone, Copy)]
@@ -28,8 +28,7 @@ pub fn planned_list(hs: [[u64; 4]; 8]) -> [u64; sizes::PLANNED_WORDS]
     ]
 }
 
-pub fn store_planned(words: &mut [u64], hs: [[u64; 4]; 8])
-    requires { length words.old ≡ 4096 }
+pub fn store_planned(words: &mut Words, hs: [[u64; 4]; 8])
     ensures { decode words.new ≡ with_words head_probe_hashes (rows_words 8 hs) (decode words.old) }
 {
     let l = planned_list(hs);

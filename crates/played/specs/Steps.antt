@@ -1,31 +1,44 @@
 -- Which call a step of the demo's script is, what is said of its answer, and what it writes in the book. Definitions only.
-use Rattle.std.specs.Prelude.{◌≡◌, Bool, true, false, cond, ◌&&◌, List, [], ◌∷◌, ℕ, eqb, leb, length, get_or, set, replicate, take, Some}
-use Rattle.model.specs.Numbers.{lesser}
+use Rattle.std.specs.Prelude.{◌≡◌, Bool, true, false, cond, List, [], ◌∷◌, ℕ, eqb, length, get_or, set, replicate, take, min, Option, None, Some, Result, Ok, Err}
 use Rattle.model.specs.Queries.{reads, ewma_block_bytes}
 use Rattle.model.specs.Refusals.{Change, Call, opens, changes, queries, requests, fetches, receives, rejects, expires, requeues, releases, retires, retains, confirms_probe, confirms_hedge, observes, sets_fanout, clears_preferred, plans}
 use Rattle.model.specs.Planning.{Lent, ask_hashes, ask_heights, written}
 use Rattle.model.specs.Perform.{Answer, refused, says, perform}
+use Rattle.model.specs.Says.{number}
+use Rattle.model.specs.declared.Refusal.{Refusal}
 use Rattle.observation.specs.Look.{look}
 use Rattle.letting_go.specs.Letting.{places}
 use Rattle.planning.specs.Proposes.{lent}
 use Rattle.report_words.specs.Report.{releases_of}
 use Rattle.lend.specs.Blank.{none_filled}
-use Rattle.lend.specs.Cases.{pick}
-use Rattle.lines.specs.Words.{plain, counted, got, refused as no}
+use Rattle.lines.specs.Words.{plain, counted, got, tail_of}
 use Rattle.lines.specs.declared.Said.{Said}
+use Rattle.lines.specs.declared.Call.{Call as Name}
+use Rattle.lines.specs.declared.Call.TheVariants as calls
+use Rattle.lines.specs.declared.Head.TheVariants as head
+use Rattle.lines.specs.declared.Tail.TheVariants as tail
+use Rattle.model.specs.declared.Reason.TheVariants as reason
 use Rattle.ledger.specs.Book.{opened, let_go}
 use Rattle.ledger.specs.declared.Book.{Book}
-use Rattle.script.specs.Given.{settings, keys, hashes, height_of, height_after, chain, words_to}
+use Rattle.script.specs.Given.{settings, keys, hashes, height_of, height_after, words_to}
 use Rattle.script.specs.Kept.{plan_of}
 use Rattle.script.specs.declared.Step.{Step}
 use Rattle.script.specs.declared.Plan.{Plan}
 use Rattle.played.specs.declared.Outcome.{Outcome}
 use Rattle.played.specs.declared.Turn.{Turn}
 
+-- what is said, with a refusal by its number, as an answer has it
+abbrev pub Spoken : Type 0
+Spoken = Result Said ℕ
+
+abbrev pub spoken : Result Said Refusal → Spoken
+spoken (Err r) = Err (number r)
+spoken (Ok s) = Ok s
+
 -- a call; what is said of its answer, beside the words of the report; how many blocks an answer says it opened
 pub record Play : Type 0 where
   pub call : Call
-  pub said : Answer → List ℕ → Said
+  pub said : Answer → List ℕ → Spoken
   pub blocks : Answer → ℕ
 
 -- more room for staged blocks than the script needs
@@ -34,56 +47,64 @@ room = 1000000000
 
 -- ---- what is said of an answer, by its values
 
-abbrev pub done_said : Answer → List ℕ → Said
-done_said (refused n) gone = no n
-done_said (says places values) gone = plain 0 0
+abbrev pub done_said : Answer → List ℕ → Spoken
+done_said (refused n) gone = Err n
+done_said (says places values) gone = Ok (plain head.Done None)
 
 -- n blocks were asked for; 0 says that there is no room for more
-abbrev pub request_said : ℕ → Answer → List ℕ → Said
-request_said n (refused k) gone = no k
-request_said n (says places values) gone = counted 2 n (cond (eqb (get_or values 0 0) 0) 13 12)
+abbrev pub request_said : ℕ → Answer → List ℕ → Spoken
+request_said n (refused k) gone = Err k
+request_said n (says places values) gone = Ok (counted head.Asked n (Some (cond (eqb (get_or values 0 0) 0) tail.Full tail.RoomLeft)))
 
 -- 0 held, 1 staged, 2 asked, 3 no room
-abbrev pub fetch_said : Answer → List ℕ → Said
-fetch_said (refused n) gone = no n
-fetch_said (says places values) gone = get_or (plain 3 11 ∷ plain 4 0 ∷ counted 2 1 0 ∷ []) (get_or values 0 0) (plain 5 0)
+abbrev pub fetch_said : Answer → List ℕ → Spoken
+fetch_said (refused n) gone = Err n
+fetch_said (says places values) gone =
+    Ok
+    (get_or (plain head.Held (Some tail.IsPending) ∷ plain head.Staged None ∷ counted head.Asked 1 None ∷ []) (get_or values 0 0) (plain head.NoRoom None))
 
 -- with the reason of the report's first place
-abbrev pub let_go_said : Answer → List ℕ → Said
-let_go_said (refused n) gone = no n
-let_go_said (says places values) gone = counted 6 places (get_or gone 8 0)
+abbrev pub let_go_said : Answer → List ℕ → Spoken
+let_go_said (refused n) gone = Err n
+let_go_said (says places values) gone = Ok (counted head.LetGo places (tail_of (get_or gone 8 0)))
 
 -- with the reason of its second place, where a height says that the block was asked for
 abbrev pub got_said : List ℕ → ℕ → List ℕ → Said
-got_said [] places gone = plain 9 0
+got_said [] places gone = plain head.Unasked None
 got_said (height ∷ values) places gone = got places (get_or gone 17 0)
 
-abbrev pub received_said : Answer → List ℕ → Said
-received_said (refused n) gone = no n
-received_said (says places values) gone = got_said values places gone
+abbrev pub received_said : Answer → List ℕ → Spoken
+received_said (refused n) gone = Err n
+received_said (says places values) gone = Ok (got_said values places gone)
 
 -- how many blocks are planned, with the reason of the report's first place
 abbrev pub proposed_said : List ℕ → List ℕ → Said
-proposed_said [] gone = plain 15 (get_or gone 8 0)
-proposed_said (n ∷ values) gone = counted 14 n (get_or gone 8 0)
+proposed_said [] gone = plain head.NoPlan (tail_of (get_or gone 8 0))
+proposed_said (n ∷ values) gone = counted head.Planned n (tail_of (get_or gone 8 0))
 
-abbrev pub plan_said : Answer → List ℕ → Said
-plan_said (refused n) gone = no n
-plan_said (says places values) gone = proposed_said values gone
+abbrev pub plan_said : Answer → List ℕ → Spoken
+plan_said (refused n) gone = Err n
+plan_said (says places values) gone = Ok (proposed_said values gone)
 
 -- 1 released, 0 discarded
-abbrev pub rejected_said : Answer → List ℕ → Said
-rejected_said (refused n) gone = no n
-rejected_said (says places values) gone = cond (eqb (get_or values 0 0) 1) (counted 6 places 2) (plain 9 14)
+abbrev pub rejected_said : Answer → List ℕ → Spoken
+rejected_said (refused n) gone = Err n
+rejected_said (says places values) gone =
+    Ok (cond (eqb (get_or values 0 0) 1) (counted head.LetGo places (Some (tail.Why reason.OwnerRejection))) (plain head.Unasked (Some tail.Discarded)))
 
 -- 0 no decision, 1 and 2 blame, 3 evicts, 4 hedges
-abbrev pub blocked_said : Answer → List ℕ → Said
-blocked_said (refused n) gone = no n
+abbrev pub blocked_said : Answer → List ℕ → Spoken
+blocked_said (refused n) gone = Err n
 blocked_said (says places values) gone =
-    get_or
-    (plain 10 0 ∷ counted 11 (get_or values 1 0) 15 ∷ counted 11 (get_or values 1 0) 16 ∷ counted 12 (get_or values 1 0) 17 ∷ [])
+    Ok
+    (get_or
+    (plain head.NoBlame None
+    ∷ counted head.Blames (get_or values 1 0) (Some tail.Staller)
+    ∷ counted head.Blames (get_or values 1 0) (Some tail.Silent)
+    ∷ counted head.Evicts (get_or values 1 0) (Some tail.Staged)
+    ∷ [])
     (get_or values 0 0)
-    (counted 13 (get_or values 1 0) 18)
+    (counted head.Hedges (get_or values 1 0) (Some tail.ColdFront)))
 
 -- ---- how many blocks an answer says were opened
 
@@ -109,15 +130,24 @@ mean_in ws = number_of (perform (queries (reads ewma_block_bytes)) ws []).answer
 
 -- ---- the steps
 
+-- where there is no plan, 0
+abbrev pub count_of : Option Plan → ℕ
+count_of None = 0
+count_of (Some p) = p.count
+
+abbrev pub next_of : Option Plan → ℕ
+next_of None = 0
+next_of (Some p) = p.next
+
 -- as many blocks of the plan as the list has heights
-abbrev pub handed : Plan → List ℕ → ℕ
-handed p heights = lesser p.count (length heights)
+abbrev pub handed : Option Plan → List ℕ → ℕ
+handed p heights = min (count_of p) (length heights)
 
 -- the last plan is marked as it stands in the two lists
-abbrev pub requesting : Step → Plan → List ℕ → List ℕ → Call
-requesting s p hashes heights = changes (requests s.clock s.peer hashes (take (handed p heights) heights) p.next room room)
+abbrev pub requesting : Step → Option Plan → List ℕ → List ℕ → Call
+requesting s p hashes heights = changes (requests s.clock s.peer hashes (take (handed p heights) heights) (next_of p) room room)
 
-abbrev pub asking : Step → Plan → List ℕ → List ℕ → Play
+abbrev pub asking : Step → Option Plan → List ℕ → List ℕ → Play
 asking s p hashes heights =
     let n = handed p heights in
     record { call = requesting s p hashes heights; said = request_said n; blocks = request_blocks n }
@@ -131,20 +161,13 @@ receiving s = record { call = changes (receives s.clock s.hash s.other (Some s.p
 abbrev pub rejecting : Step → Play
 rejecting s = record { call = changes (rejects s.clock s.hash (Some s.peer)); said = rejected_said; blocks = no_blocks }
 
--- 9, and what else there is: every seat is kept but the peer's
-abbrev pub calls_letting_go : Step → List (ℕ × Change)
-calls_letting_go s =
-    (5, expires s.clock)
-    ∷ (6, requeues s.clock s.hash (Some s.first))
-    ∷ (7, releases s.clock s.hash)
-    ∷ (8, retires s.clock s.first)
-    ∷ []
+-- a call that lets go
+abbrev pub letting : Change → Play
+letting x = record { call = changes x; said = let_go_said; blocks = no_blocks }
 
-abbrev pub letting_go : Step → ℕ → Call
-letting_go s call = changes (pick (calls_letting_go s) (retains (set (replicate 256 1) s.peer 0)) call)
-
-abbrev pub letting : Step → Play
-letting s = record { call = letting_go s s.call; said = let_go_said; blocks = no_blocks }
+-- every seat is kept but the peer's
+abbrev pub keeping : Step → Change
+keeping s = retains (set (replicate 256 1) s.peer 0)
 
 abbrev pub looking : Step → Play
 looking s = record {
@@ -153,34 +176,44 @@ looking s = record {
   blocks = no_blocks;
 }
 
-abbrev pub calls_done : Step → List (ℕ × Call)
-calls_done s =
-    (11, changes (confirms_hedge s.other s.peer s.hash))
-    ∷ (12, changes (confirms_probe s.clock s.other (hashes 8 s.first) (s.peer ∷ [])))
-    ∷ (13, changes (sets_fanout s.clock s.other))
-    ∷ (14, changes clears_preferred)
-    ∷ []
+-- a call that is done or refused
+abbrev pub doing : Call → Play
+doing call = record { call = call; said = done_said; blocks = no_blocks }
 
--- 0, and what else there is: the opening
-abbrev pub changing : Step → ℕ → Call
-changing s = pick (calls_done s) (opens s.clock settings (keys 256))
+-- the peer is asked for eight blocks of their owner's
+abbrev pub probing : Step → Change
+probing s = confirms_probe s.clock s.other (hashes 32 8 s.first) (s.peer ∷ [])
 
-abbrev pub doing : Step → Play
-doing s = record { call = changing s s.call; said = done_said; blocks = no_blocks }
+abbrev pub opening : Step → Call
+opening s = opens s.clock settings (keys 256)
 
-abbrev pub steps : Step → Plan → List ℕ → List ℕ → List (ℕ × Play)
-steps s p hashes heights =
-    (1, asking s p hashes heights) ∷ (2, fetching s) ∷ (3, receiving s) ∷ (4, rejecting s) ∷ (10, looking s) ∷ []
+abbrev pub making_by : Step → Option Plan → List ℕ → List ℕ → Name → Play
+making_by s p hashes heights calls.MarkRequested = asking s p hashes heights
+making_by s p hashes heights calls.MarkOwnedFetch = fetching s
+making_by s p hashes heights calls.MarkReceivedFrom = receiving s
+making_by s p hashes heights calls.RejectDelivery = rejecting s
+making_by s p hashes heights calls.ExpirePending = letting (expires s.clock)
+making_by s p hashes heights calls.RequeueForRetry = letting (requeues s.clock s.hash (Some s.first))
+making_by s p hashes heights calls.ReleasePending = letting (releases s.clock s.hash)
+making_by s p hashes heights calls.RetireBefore = letting (retires s.clock s.first)
+making_by s p hashes heights calls.RetainOwnedBy = letting (keeping s)
+making_by s p hashes heights calls.ObserveBlocked = looking s
+making_by s p hashes heights calls.ConfirmColdFrontHedge = doing (changes (confirms_hedge s.other s.peer s.hash))
+making_by s p hashes heights calls.ConfirmPrefixProbe = doing (changes (probing s))
+making_by s p hashes heights calls.SetFanoutEligiblePeers = doing (changes (sets_fanout s.clock s.other))
+making_by s p hashes heights calls.ClearPreferredPeer = doing (changes clears_preferred)
+making_by s p hashes heights calls.Open = doing (opening s)
+making_by s p hashes heights calls.NextPeerRequest = doing (opening s)
 
-abbrev pub lets_go : ℕ → Bool
-lets_go call = leb 5 call && leb call 9
-
-abbrev pub making_by : Step → Plan → List ℕ → List ℕ → ℕ → Play
-making_by s p hashes heights = pick (steps s p hashes heights) (cond (lets_go s.call) (letting s) (doing s))
-
--- every call but the one that plans
-unfoldable pub making : Step → Plan → List ℕ → List ℕ → Play
+-- every call but the one that plans, which stands here as an opening
+unfoldable pub making : Step → Option Plan → List ℕ → List ℕ → Play
 making s p hashes heights = making_by s p hashes heights s.call
+
+-- ---- which call plans
+
+abbrev pub plans_by : Name → Bool
+plans_by calls.NextPeerRequest = true
+plans_by _ = false
 
 -- ---- a plan
 
@@ -190,16 +223,20 @@ abbrev pub lent_at : Step → List ℕ → ℕ → ℕ → List ℕ → Lent
 lent_at s staged tip n words = lent (take n words) tip s.first tip 0 staged [] false room s.count
 
 abbrev pub lent_by : Step → List ℕ → Lent
-lent_by s staged = let tip = height_of s.other in lent_at s staged tip (words_to tip) (chain 64)
+lent_by s staged = let tip = height_of s.other in lent_at s staged tip (words_to tip) (hashes 256 64 0)
 
 -- with lists of so many words and heights
 abbrev pub planning : Step → List ℕ → ℕ → ℕ → Play
 planning s staged n m = record { call = changes (plans s.clock s.peer (lent_by s staged) n m); said = plan_said; blocks = no_blocks }
 
--- the plan that an answer says, with its heights first in the list
-abbrev pub planned_by : Answer → List ℕ → Plan
-planned_by (refused n) heights = plan_of 0 0 heights
-planned_by (says places values) heights = plan_of (get_or values 0 0) (get_or values 1 0) heights
+-- the plan that an answer says, with its heights first in the list; a refused call makes none
+abbrev pub plan_in : List ℕ → List ℕ → Option Plan
+plan_in [] heights = None
+plan_in (count ∷ values) heights = Some (plan_of count (get_or values 0 0) heights)
+
+abbrev pub planned_by : Answer → List ℕ → Option Plan
+planned_by (refused n) heights = None
+planned_by (says places values) heights = plan_in values heights
 
 -- ---- the promises
 
@@ -210,21 +247,21 @@ Plays t b ws ws' r =
     (gone : List ℕ)
     × (releases_of 256 gone ≡ (perform t.call ws none_filled).report)
     × (ws' ≡ (perform t.call ws none_filled).words)
-    × (r.said ≡ t.said (perform t.call ws none_filled).answer gone)
+    × (spoken r.said ≡ t.said (perform t.call ws none_filled).answer gone)
     × (r.book ≡ let_go (opened b (t.blocks (perform t.call ws none_filled).answer) (mean_in ws)) gone (places (perform t.call ws none_filled).answer))
 
 -- What is kept beside the book: the last plan, the two lists that are lent for one, and the hashes that are staged.
 pub record Kept : Type 0 where
-  pub plan : Plan
+  pub plan : Option Plan
   pub hashes : List ℕ
   pub heights : List ℕ
   pub staged : List ℕ
 
-abbrev pub kept : Plan → List ℕ → List ℕ → List ℕ → Kept
+abbrev pub kept : Option Plan → List ℕ → List ℕ → List ℕ → Kept
 kept plan hashes heights staged = record { plan = plan; hashes = hashes; heights = heights; staged = staged }
 
 -- THE PROMISE of a step: it plays, what `perform` plans stands in the two lists, and the last plan is the one that is made of the answer.
-abbrev pub Turns : Play → (Answer → List ℕ → Plan) → Kept → Book → List ℕ → List ℕ → List ℕ → List ℕ → Turn → Type 0
+abbrev pub Turns : Play → (Answer → List ℕ → Option Plan) → Kept → Book → List ℕ → List ℕ → List ℕ → List ℕ → Turn → Type 0
 Turns t plan k b ws ws' hashes' heights' r =
     Plays t b ws ws' (record { said = r.said; book = r.book })
     × (hashes' ≡ written (ask_hashes (perform t.call ws none_filled).plan) k.hashes)
@@ -236,13 +273,12 @@ abbrev pub play_if : Bool → Step → Kept → Play
 play_if true s k = planning s k.staged (length k.hashes) (length k.heights)
 play_if false s k = making s k.plan k.hashes k.heights
 
-abbrev pub plan_if : Bool → Kept → Answer → List ℕ → Plan
+abbrev pub plan_if : Bool → Kept → Answer → List ℕ → Option Plan
 plan_if true k a heights = planned_by a heights
 plan_if false k a heights = k.plan
 
 abbrev pub TurnsIf : Bool → Step → Kept → Book → List ℕ → List ℕ → List ℕ → List ℕ → Turn → Type 0
 TurnsIf is_plan s k = Turns (play_if is_plan s k) (plan_if is_plan k) k
 
--- 15 plans
 abbrev pub TurnsBy : Step → Kept → Book → List ℕ → List ℕ → List ℕ → List ℕ → Turn → Type 0
-TurnsBy s = TurnsIf (eqb s.call 15) s
+TurnsBy s = TurnsIf (plans_by s.call) s

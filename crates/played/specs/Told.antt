@@ -1,12 +1,9 @@
 -- What the calls promise, said of the step of the script that makes them. Assumes nothing.
-use Rattle.std.specs.Prelude.{◌≡◌, refl, Bool, true, false, List, [], ℕ, zero, suc, eqb, length, get_or, replicate, Option, None, Some, Result, Ok, Err, ⊤}
+use Rattle.std.specs.Prelude.{◌≡◌, refl, Bool, true, false, List, [], ℕ, zero, suc, length, get_or, replicate, Option, None, Some, Result, Ok, Err, ⊤}
 use Rattle.std.proofs.Common.{sym, subst, ◌∙◌}
 use Rattle.std.proofs.Math.Path.{ap}
-use Rattle.std.proofs.Math.Bool.{cond}
-use Rattle.model.specs.Numbers.{lesser}
 use Rattle.model.specs.Window.{Window}
 use Rattle.model.specs.Queries.{source_values}
-use Rattle.model.specs.Calls.{Ask}
 use Rattle.model.specs.Planning.{ask_hashes, ask_heights, written}
 use Rattle.model.specs.Refusals.{Change, Call, changes, refusal}
 use Rattle.model.specs.Perform.{Answer, says, requested, observed, changed, does, plan_by, plan_after, perform}
@@ -24,26 +21,27 @@ use Rattle.model.specs.declared.Refusal.{Refusal}
 use Rattle.letting_go.specs.Letting.{places}
 use Rattle.report_words.specs.Report.{releases_of}
 use Rattle.lend.specs.Blank.{none_filled}
-use Rattle.lend.specs.Cases.{Missed, picks_other, picks_such}
-use Rattle.lend.specs.Goes.{Goes, Leaves, Quiet, quiet_change, quiet_opening, quiet_goes}
+use Rattle.lend.specs.Goes.{Goes, Leaves, Quiet, quiet_goes}
 use Rattle.lines.specs.Words as words
 use Rattle.lines.specs.declared.Said.{Said}
-use Rattle.ledger.specs.Book.{value, added, tallied, opened, of_request, of_fetch, let_go}
+use Rattle.lines.specs.declared.Call.{Call as Name}
+use Rattle.lines.specs.declared.Call.TheVariants as calls
+use Rattle.ledger.specs.Book.{value, more, added, tallied, opened, of_request, of_fetch, let_go}
 use Rattle.ledger.specs.declared.Book.{Book}
 use Rattle.script.specs.Kept.{plan_of_request, planned}
 use Rattle.script.specs.declared.Step.{Step}
 use Rattle.script.specs.declared.Plan.{Plan}
 use Rattle.played.specs.declared.Outcome.{Outcome}
 use Rattle.played.specs.declared.Turn.{Turn}
-use Rattle.played.specs.Steps.{Play, Plays, Kept, Turns, TurnsIf, TurnsBy, done_said, request_said, fetch_said, let_go_said, received_said, rejected_said, blocked_said, plan_said, planned_by, request_blocks, fetch_blocks, no_blocks, number_of, mean_in, calls_letting_go, calls_done, changing, letting, doing, steps, lets_go, making_by, making}
+use Rattle.played.specs.Steps.{spoken, Play, Plays, Kept, Turns, TurnsIf, TurnsBy, done_said, request_said, fetch_said, let_go_said, received_said, rejected_said, blocked_said, plan_said, planned_by, request_blocks, fetch_blocks, number_of, mean_in, letting, doing, plans_by, making_by, making}
 
 -- ---- an answer of the code, by its values
 
-pub done_told : (r : Result ⊤ Refusal) (gone : List ℕ) → words.accepted r ≡ done_said (accepted_says r) gone
+pub done_told : (r : Result ⊤ Refusal) (gone : List ℕ) → spoken (words.accepted r) ≡ done_said (accepted_says r) gone
 done_told (Err r) gone = refl
 done_told (Ok u) gone = refl
 
-pub request_told : (r : Result Bool Refusal) (n : ℕ) (gone : List ℕ) → words.requested r n ≡ request_said n (requested_says r) gone
+pub request_told : (r : Result Bool Refusal) (n : ℕ) (gone : List ℕ) → spoken (words.requested r n) ≡ request_said n (requested_says r) gone
 request_told (Err r) n gone = refl
 request_told (Ok false) n gone = refl
 request_told (Ok true) n gone = refl
@@ -52,7 +50,7 @@ pub request_opens : (r : Result Bool Refusal) (n : ℕ) → of_request r n ≡ r
 request_opens (Err r) n = refl
 request_opens (Ok room) n = refl
 
-pub fetch_told : (r : Result Fetch Refusal) (gone : List ℕ) → words.fetched r ≡ fetch_said (fetch_says r) gone
+pub fetch_told : (r : Result Fetch Refusal) (gone : List ℕ) → spoken (words.fetched r) ≡ fetch_said (fetch_says r) gone
 fetch_told (Err r) gone = refl
 fetch_told (Ok fetch.Held) gone = refl
 fetch_told (Ok fetch.Staged) gone = refl
@@ -66,24 +64,24 @@ fetch_opens (Ok fetch.Staged) = refl
 fetch_opens (Ok fetch.Asked) = refl
 fetch_opens (Ok fetch.NoCapacity) = refl
 
-pub let_go_told : (r : Result ℕ Refusal) (gone : List ℕ) → words.let_go r (get_or gone 8 0) ≡ let_go_said (let_go_says r) gone
+pub let_go_told : (r : Result ℕ Refusal) (gone : List ℕ) → spoken (words.let_go r (get_or gone 8 0)) ≡ let_go_said (let_go_says r) gone
 let_go_told (Err r) gone = refl
 let_go_told (Ok n) gone = refl
 
-received_at : (height : Option ℕ) (n : ℕ) (gone : List ℕ) → words.received_by height n (get_or gone 17 0) ≡ received_said (says n (source_values height)) gone
+received_at : (height : Option ℕ) (n : ℕ) (gone : List ℕ) → spoken (Ok (words.received_by height n (get_or gone 17 0))) ≡ received_said (says n (source_values height)) gone
 received_at None n gone = refl
 received_at (Some height) n gone = refl
 
-pub received_told : (r : Result Received Refusal) (gone : List ℕ) → words.received r (get_or gone 17 0) ≡ received_said (received_says r) gone
+pub received_told : (r : Result Received Refusal) (gone : List ℕ) → spoken (words.received r (get_or gone 17 0)) ≡ received_said (received_says r) gone
 received_told (Err r) gone = refl
 received_told (Ok d) gone = received_at d.height d.places gone
 
-pub rejected_told : (r : Result Rejected Refusal) (gone : List ℕ) → words.rejected r ≡ rejected_said (rejected_says r) gone
+pub rejected_told : (r : Result Rejected Refusal) (gone : List ℕ) → spoken (words.rejected r) ≡ rejected_said (rejected_says r) gone
 rejected_told (Err r) gone = refl
 rejected_told (Ok (rejected.ReleasedPending n)) gone = refl
 rejected_told (Ok rejected.DiscardedUnsolicited) gone = refl
 
-pub blocked_told : (r : Result Blocked Refusal) (gone : List ℕ) → words.blocked r ≡ blocked_said (blocked_says r) gone
+pub blocked_told : (r : Result Blocked Refusal) (gone : List ℕ) → spoken (words.blocked r) ≡ blocked_said (blocked_says r) gone
 blocked_told (Err r) gone = refl
 blocked_told (Ok blocked.NoDecision) gone = refl
 blocked_told (Ok (blocked.BlameStaller owner)) gone = refl
@@ -91,11 +89,11 @@ blocked_told (Ok (blocked.BlamePendingTimeout owner)) gone = refl
 blocked_told (Ok (blocked.EvictStaged height h suppressed)) gone = refl
 blocked_told (Ok (blocked.HedgeColdFront owner h)) gone = refl
 
-plan_at : (p : Option Request) (n : ℕ) (gone : List ℕ) → words.planned_by p (get_or gone 8 0) ≡ plan_said (says n (request_values p)) gone
+plan_at : (p : Option Request) (n : ℕ) (gone : List ℕ) → spoken (Ok (words.planned_by p (get_or gone 8 0))) ≡ plan_said (says n (request_values p)) gone
 plan_at None n gone = refl
 plan_at (Some p) n gone = refl
 
-pub plan_told : (r : Result NextRequest Refusal) (gone : List ℕ) → words.planned r (get_or gone 8 0) ≡ plan_said (next_request_says r) gone
+pub plan_told : (r : Result NextRequest Refusal) (gone : List ℕ) → spoken (words.planned r (get_or gone 8 0)) ≡ plan_said (next_request_says r) gone
 plan_told (Err r) gone = refl
 plan_told (Ok n) gone = plan_at n.request n.places gone
 
@@ -114,69 +112,71 @@ number_told (Ok x) = refl
 -- ---- the book after a call that opens, and after one that lets go
 
 none_opened : (b : Book) (estimate : ℕ) → b ≡ opened b 0 estimate
-unfolding opened added
+unfolding opened more added
 none_opened b estimate = refl
 
 only_opened : (b : Book) (n estimate : ℕ) (gone : List ℕ) → opened b n estimate ≡ let_go (opened b n estimate) gone 0
-unfolding let_go opened tallied lesser
+unfolding let_go opened more tallied
 only_opened b n estimate gone = refl
 
 only_let_go : (b : Book) (estimate : ℕ) (gone : List ℕ) (n : ℕ) → let_go b gone n ≡ let_go (opened b 0 estimate) gone n
-unfolding let_go opened added
+unfolding let_go opened more added
 only_let_go b estimate gone n = refl
 
 -- ---- the promise
 
-pub plays : (t : Play) (b : Book) (ws ws' : List ℕ) (a : Answer) (n : ℕ) (gone : List ℕ) (said : Said) (book : Book) → Goes t.call ws ws' a n gone
-    → said ≡ t.said a gone → book ≡ let_go (opened b (t.blocks a) (mean_in ws)) gone n → Plays t b ws ws' (record { said = said; book = book })
+pub plays : (t : Play) (b : Book) (ws ws' : List ℕ) (a : Answer) (n : ℕ) (gone : List ℕ) (said : Result Said Refusal) (book : Book) → Goes t.call ws ws' a n gone
+    → spoken said ≡ t.said a gone → book ≡ let_go (opened b (t.blocks a) (mean_in ws)) gone n → Plays t b ws ws' (record { said = said; book = book })
 plays t b ws ws' a n gone said book g s k =
     let e = g.0 in
     let m = g.3 ∙ ap places e in
     (gone, g.2, g.1, s ∙ ap (λ (y : Answer). t.said y gone) e, k ∙ (λ i. let_go (opened b (t.blocks (e i)) (mean_in ws)) gone (m i)))
 
 -- of a call that lets go
-pub plays_letting : (t : Play) (b : Book) (ws ws' : List ℕ) (a : Answer) (n : ℕ) (gone : List ℕ) (said : Said) (book : Book) → Goes t.call ws ws' a n gone
-    → said ≡ t.said a gone → book ≡ let_go b gone n → t.blocks a ≡ 0 → Plays t b ws ws' (record { said = said; book = book })
+pub plays_letting : (t : Play) (b : Book) (ws ws' : List ℕ) (a : Answer) (n : ℕ) (gone : List ℕ) (said : Result Said Refusal) (book : Book) → Goes t.call ws ws' a n gone
+    → spoken said ≡ t.said a gone → book ≡ let_go b gone n → t.blocks a ≡ 0 → Plays t b ws ws' (record { said = said; book = book })
 plays_letting t b ws ws' a n gone said book g s k z =
     plays t b ws ws' a n gone said book g s (k ∙ only_let_go b (mean_in ws) gone n ∙ ap (λ (m : ℕ). let_go (opened b m (mean_in ws)) gone n) (sym z))
 
 -- of a call that lets nothing go, and opens so many blocks
-pub plays_opening : (t : Play) (b : Book) (ws ws' : List ℕ) (a : Answer) (n estimate : ℕ) (said : Said) (book : Book) → Quiet t.call → Leaves t.call ws a ws'
-    → said ≡ t.said a (replicate 2304 0) → book ≡ opened b n estimate → n ≡ t.blocks a → estimate ≡ mean_in ws → Plays t b ws ws' (record { said = said; book = book })
+pub plays_opening : (t : Play) (b : Book) (ws ws' : List ℕ) (a : Answer) (n estimate : ℕ) (said : Result Said Refusal) (book : Book) → Quiet t.call → Leaves t.call ws a ws'
+    → spoken said ≡ t.said a (replicate 2304 0) → book ≡ opened b n estimate → n ≡ t.blocks a → estimate ≡ mean_in ws → Plays t b ws ws' (record { said = said; book = book })
 plays_opening t b ws ws' a n estimate said book q l s k m e =
     plays t b ws ws' a 0 (replicate 2304 0) said book (quiet_goes t.call q ws a ws' l) s
     (k ∙ (λ i. opened b (m i) (e i)) ∙ only_opened b (t.blocks a) (mean_in ws) (replicate 2304 0))
 
 -- of one that opens nothing either
-pub plays_quietly : (t : Play) (b : Book) (ws ws' : List ℕ) (a : Answer) (said : Said) → Quiet t.call → Leaves t.call ws a ws'
-    → said ≡ t.said a (replicate 2304 0) → t.blocks a ≡ 0 → Plays t b ws ws' (record { said = said; book = b })
+pub plays_quietly : (t : Play) (b : Book) (ws ws' : List ℕ) (a : Answer) (said : Result Said Refusal) → Quiet t.call → Leaves t.call ws a ws'
+    → spoken said ≡ t.said a (replicate 2304 0) → t.blocks a ≡ 0 → Plays t b ws ws' (record { said = said; book = b })
 plays_quietly t b ws ws' a said q l s z =
     plays_opening t b ws ws' a 0 (mean_in ws) said b q l s (none_opened b (mean_in ws)) (sym z) refl
 
 pub plays_as : (p q : Play) → p ≡ q → (b : Book) (ws ws' : List ℕ) (r : Outcome) → Plays q b ws ws' r → Plays p b ws ws' r
 plays_as p q e b ws ws' r h = subst (λ (x : Play). Plays x b ws ws' r) (sym e) h
 
--- the calls that are done or refused let nothing go
-pub quiet_changing : (s : Step) (call : ℕ) → Quiet (changing s call)
-quiet_changing s call =
-    picks_such Quiet (calls_done s) _
-    (quiet_change _ refl, (quiet_change _ refl, (quiet_change _ refl, (quiet_change _ refl, tt))))
-    (quiet_opening _ _ _)
-    call
-
 -- ---- which step it is
 
-module _ (s : Step) (p : Plan) (hashes heights : List ℕ) where
-  pub plays_step : {n : ℕ} → s.call ≡ n → (b : Book) (ws ws' : List ℕ) (r : Outcome) → Plays (making_by s p hashes heights n) b ws ws' r
+module _ (s : Step) (p : Option Plan) (hashes heights : List ℕ) where
+  pub plays_step : {n : Name} → s.call ≡ n → (b : Book) (ws ws' : List ℕ) (r : Outcome) → Plays (making_by s p hashes heights n) b ws ws' r
       → Plays (making s p hashes heights) b ws ws' r
   unfolding making
   plays_step e b ws ws' r h = plays_as _ _ (ap (making_by s p hashes heights) e) b ws ws' r h
 
-  pub plays_other : Missed (steps s p hashes heights) s.call (Unit {0}) → {l : Bool} → lets_go s.call ≡ l → (b : Book) (ws ws' : List ℕ) (r : Outcome)
-      → Plays (cond l (letting s) (doing s)) b ws ws' r → Plays (making s p hashes heights) b ws ws' r
-  unfolding making
-  plays_other m e b ws ws' r h =
-      plays_as _ _ (picks_other (steps s p hashes heights) _ s.call _ m ∙ ap (λ (l : Bool). cond l (letting s) (doing s)) e) b ws ws' r h
+  -- a call that lets go, with what is said of it and booked
+  pub step_letting : {n : Name} → s.call ≡ n → (x : Change) → making_by s p hashes heights n ≡ letting x → (b : Book) (ws ws' : List ℕ) (a : Result ℕ Refusal) (m : ℕ) (gone : List ℕ)
+      (r : Outcome) → Goes (changes x) ws ws' (let_go_says a) m gone → (r.said ≡ words.let_go a (get_or gone 8 0)) × (r.book ≡ let_go b gone m)
+      → Plays (making s p hashes heights) b ws ws' r
+  step_letting e x f b ws ws' a m gone r g h =
+      plays_step e b ws ws' r
+      (plays_as _ _ f b ws ws' r (plays_letting (letting x) b ws ws' (let_go_says a) m gone r.said r.book g (ap spoken h.0 ∙ let_go_told a gone) h.1 refl))
+
+  -- one that is done or refused, and lets nothing go
+  pub step_doing : {n : Name} → s.call ≡ n → (x : Call) → making_by s p hashes heights n ≡ doing x → Quiet x → (b : Book) (ws ws' : List ℕ) (a : Result ⊤ Refusal) (r : Outcome)
+      → Leaves x ws (accepted_says a) ws' → (r.said ≡ words.accepted a) × (r.book ≡ b) → Plays (making s p hashes heights) b ws ws' r
+  step_doing e x f q b ws ws' a r l h =
+      plays_step e b ws ws' r
+      (plays_as _ _ f b ws ws' r
+      (plays_opening (doing x) b ws ws' (accepted_says a) 0 (mean_in ws) r.said r.book q l (ap spoken h.0 ∙ done_told a (replicate 2304 0)) (h.1 ∙ none_opened b (mean_in ws)) refl refl))
 
 -- ---- all calls but one plan nothing, and leave the lists as they are
 
@@ -191,24 +191,28 @@ planless : (call : Call) → Planless call → (ws : List ℕ) → (perform call
 unfolding perform plan_after
 planless call q ws = nothing_planned call q (refusal call ws (length none_filled)) ws
 
-either : (b : Bool) (t u : Play) → Planless t.call → Planless u.call → Planless (cond b t u).call
-either true t u p q = p
-either false t u p q = q
+planless_by : (s : Step) (p : Option Plan) (hashes heights : List ℕ) (call : Name) → Planless (making_by s p hashes heights call).call
+unfolding changed requested observed
+planless_by s p hashes heights calls.MarkRequested = λ w. refl
+planless_by s p hashes heights calls.MarkOwnedFetch = λ w. refl
+planless_by s p hashes heights calls.MarkReceivedFrom = λ w. refl
+planless_by s p hashes heights calls.RejectDelivery = λ w. refl
+planless_by s p hashes heights calls.ExpirePending = λ w. refl
+planless_by s p hashes heights calls.RequeueForRetry = λ w. refl
+planless_by s p hashes heights calls.ReleasePending = λ w. refl
+planless_by s p hashes heights calls.RetireBefore = λ w. refl
+planless_by s p hashes heights calls.RetainOwnedBy = λ w. refl
+planless_by s p hashes heights calls.ObserveBlocked = λ w. refl
+planless_by s p hashes heights calls.ConfirmColdFrontHedge = λ w. refl
+planless_by s p hashes heights calls.ConfirmPrefixProbe = λ w. refl
+planless_by s p hashes heights calls.SetFanoutEligiblePeers = λ w. refl
+planless_by s p hashes heights calls.ClearPreferredPeer = λ w. refl
+planless_by s p hashes heights calls.Open = λ w. refl
+planless_by s p hashes heights calls.NextPeerRequest = λ w. refl
 
-planless_letting : (s : Step) → Planless (letting s).call
-unfolding changed
-planless_letting s =
-    picks_such (λ (x : Change). Planless (changes x)) (calls_letting_go s) _ (λ w. refl, (λ w. refl, (λ w. refl, (λ w. refl, tt)))) (λ w. refl) s.call
-
-planless_doing : (s : Step) → Planless (doing s).call
-unfolding changed
-planless_doing s = picks_such Planless (calls_done s) _ (λ w. refl, (λ w. refl, (λ w. refl, (λ w. refl, tt)))) (λ w. refl) s.call
-
-planless_making : (s : Step) (p : Plan) (hashes heights : List ℕ) → Planless (making s p hashes heights).call
-unfolding making changed requested observed
-planless_making s p hashes heights =
-    picks_such (λ (t : Play). Planless t.call) (steps s p hashes heights) _ (λ w. refl, (λ w. refl, (λ w. refl, (λ w. refl, (λ w. refl, tt)))))
-    (either (lets_go s.call) (letting s) (doing s) (planless_letting s) (planless_doing s)) s.call
+planless_making : (s : Step) (p : Option Plan) (hashes heights : List ℕ) → Planless (making s p hashes heights).call
+unfolding making
+planless_making s p hashes heights = planless_by s p hashes heights s.call
 
 hashes_as_lent : (l : List ℕ) → l ≡ written (ask_hashes []) l
 unfolding written ask_hashes
@@ -220,9 +224,9 @@ heights_as_lent l = refl
 
 -- ---- the promise of a step
 
-pub turns_making : (s : Step) (k : Kept) (b : Book) (ws ws' : List ℕ) (said : Said) (book : Book)
+pub turns_making : (s : Step) (k : Kept) (b : Book) (ws ws' : List ℕ) (said : Result Said Refusal) (book : Book)
     → Plays (making s k.plan k.hashes k.heights) b ws ws' (record { said = said; book = book })
-    → eqb s.call 15 ≡ false → TurnsBy s k b ws ws' k.hashes k.heights (record { said = said; book = book; plan = k.plan })
+    → plans_by s.call ≡ false → TurnsBy s k b ws ws' k.hashes k.heights (record { said = said; book = book; plan = k.plan })
 turns_making s k b ws ws' said book h e =
     let none = planless _ (planless_making s k.plan k.hashes k.heights) ws in
     subst (λ (x : Bool). TurnsIf x s k b ws ws' k.hashes k.heights (record { said = said; book = book; plan = k.plan })) (sym e) (
@@ -242,13 +246,13 @@ Plans call ws ws' hashes hashes' heights heights' a n gone =
     × (heights' ≡ written (ask_heights (perform call ws none_filled).plan) heights)
     × (n ≡ places a)
 
-pub turns_proposing : (t : Play) (q : Call) → t.call ≡ q → (k : Kept) (b : Book) (ws ws' hashes' heights' : List ℕ) (a : Answer) (n : ℕ) (gone : List ℕ) (said : Said) (book : Book) (plan : Plan)
-    → Plans q ws ws' k.hashes hashes' k.heights heights' a n gone → said ≡ t.said a gone → book ≡ let_go b gone n → t.blocks a ≡ 0
+pub turns_proposing : (t : Play) (q : Call) → t.call ≡ q → (k : Kept) (b : Book) (ws ws' hashes' heights' : List ℕ) (a : Answer) (n : ℕ) (gone : List ℕ) (said : Result Said Refusal) (book : Book) (plan : Option Plan)
+    → Plans q ws ws' k.hashes hashes' k.heights heights' a n gone → spoken said ≡ t.said a gone → book ≡ let_go b gone n → t.blocks a ≡ 0
     → plan ≡ planned_by a heights' → Turns t planned_by k b ws ws' hashes' heights' (record { said = said; book = book; plan = plan })
 turns_proposing t q e k b ws ws' hashes' heights' a n gone said book plan h s o z p =
     let g = subst (λ (x : Call). Plans x ws ws' k.hashes hashes' k.heights heights' a n gone) (sym e) h in
     (plays_letting t b ws ws' a n gone said book (g.0, g.1, g.2, g.5) s o z, g.3, g.4, p ∙ ap (λ (y : Answer). planned_by y heights') g.0)
 
 pub turns_planning : (s : Step) (k : Kept) (b : Book) (ws ws' hashes' heights' : List ℕ) (r : Turn)
-    → eqb s.call 15 ≡ true → TurnsIf true s k b ws ws' hashes' heights' r → TurnsBy s k b ws ws' hashes' heights' r
+    → plans_by s.call ≡ true → TurnsIf true s k b ws ws' hashes' heights' r → TurnsBy s k b ws ws' hashes' heights' r
 turns_planning s k b ws ws' hashes' heights' r e h = subst (λ (x : Bool). TurnsIf x s k b ws ws' hashes' heights' r) (sym e) h

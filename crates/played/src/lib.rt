@@ -1,30 +1,33 @@
-// What a host does: a call of the demo's script made on the lent words, one function for each kind of answer. It answers what is said of the call, the book after it, and the
-// last plan. What is asked of a peer is what was planned for it, as the plan stands in the two lists that are lent for it.
+// What a host does: a call of the demo's script made on the lent words. It answers what is said of the call, the book after it, and the last plan. What is asked of a peer is what
+// was planned for it, as the plan stands in the two lists that are lent for it.
 #![tactic(auto)]
 
-ghost use Rattle.std.specs.Prelude.{◌≡◌, [], length};
-ghost use Rattle.model.specs.Perform.{perform};
+ghost use Rattle.std.specs.Prelude.{◌≡◌, length, get_or};
+ghost use Rattle.model.specs.Refusals.{changes};
 ghost use Rattle.model.specs.Says.{accepted_says, let_go_says};
-ghost use Rattle.lend.specs.Goes.{Goes};
-ghost use Rattle.played.specs.Steps.{asking, fetching, receiving, rejecting, letting_go, letting, looking, changing, doing, making, planning, planned_by, kept, Plays, Turns, TurnsBy};
+ghost use Rattle.lend.specs.Goes.{Goes, Leaves};
+ghost use Rattle.ledger.specs.Book.{let_go};
+ghost use Rattle.lines.specs.Words.{accepted, let_go as let_go_words};
+ghost use Rattle.played.specs.Steps.{count_of, next_of, asking, fetching, receiving, rejecting, keeping, probing, opening, looking, making, planning, planned_by, plans_by, kept, Plays, Turns, TurnsBy};
 
 use ledger::Book;
 use lend::Reported;
-use lines::Said;
+use lines::{Call, Said};
 use model::{Refusal, of_release, sizes};
+use planning::Given;
 use script::{Plan, Step};
 
 #[derive(Clone, Copy)]
 pub struct Outcome {
-    pub said: Said,
+    pub said: Result<Said, Refusal>,
     pub book: Book,
 }
 
 #[derive(Clone, Copy)]
 pub struct Turn {
-    pub said: Said,
+    pub said: Result<Said, Refusal>,
     pub book: Book,
-    pub plan: Plan,
+    pub plan: Option<Plan>,
 }
 
 // More room for staged blocks than the script needs.
@@ -33,18 +36,40 @@ const ROOM: u64 = 1_000_000_000;
 // the reason of the report's second place: the first is the block that came
 const SECOND_REASON: usize = sizes::RELEASE_WORDS + of_release::REASON;
 
-// The last plan, as it stands in its lists: as many blocks as are handed in are booked.
-fn ask(words: &mut [u64], hashes: &[u64], heights: &[u32], b: Book, p: Plan, s: Step) -> Outcome
+// ---- a call that asks
+
+fn count_of(p: Option<Plan>) -> usize
+    ensures { result ≡ count_of p }
+{
+    p.map_or(0, |p| p.count)
+}
+
+fn next_of(p: Option<Plan>) -> u32
+    ensures { result ≡ next_of p }
+{
+    p.map_or(0, |p| p.next)
+}
+
+// The last plan, as it stands in its lists: as many blocks as are handed in are booked. Where there is none, no blocks are.
+fn ask(
+    words: &mut [u64],
+    hashes: &[u64],
+    heights: &[u32],
+    b: Book,
+    p: Option<Plan>,
+    s: Step,
+) -> Outcome
     ensures { Plays (asking s p hashes.now heights.now) b words.old words.new result }
 {
     let mean = window_queries::ewma_block_bytes(words);
-    let k = script::at_most(p.count, heights.len());
+    let count = count_of(p);
+    let k = count.min(heights.len());
     let r = window::mark_requested(
         words,
         s.peer,
         hashes,
         &heights[..k],
-        p.next,
+        next_of(p),
         ROOM,
         ROOM,
         s.clock,
@@ -52,7 +77,7 @@ fn ask(words: &mut [u64], hashes: &[u64], heights: &[u32], b: Book, p: Plan, s: 
     let n = k as u64;
     Outcome {
         said: lines::words::requested(r, n),
-        book: ledger::requested(b, r, n, mean),
+        book: b.requested(r, n, mean),
     }
 }
 
@@ -64,9 +89,11 @@ fn fetch(words: &mut [u64], b: Book, s: Step) -> Outcome
     let r = window::mark_owned_fetch(words, s.peer, h, s.first, false, ROOM, ROOM, s.clock);
     Outcome {
         said: lines::words::fetched(r),
-        book: ledger::fetched(b, r, mean),
+        book: b.fetched(r, mean),
     }
 }
+
+// ---- a call that lets go
 
 // A body of `other` bytes came from the peer.
 fn receive(words: &mut [u64], b: Book, s: Step) -> Outcome
@@ -78,7 +105,7 @@ fn receive(words: &mut [u64], b: Book, s: Step) -> Outcome
     let gone = l.gone;
     Outcome {
         said: lines::words::received(r, gone[SECOND_REASON]),
-        book: ledger::let_go(b, gone, l.places),
+        book: b.let_go(gone, l.places),
     }
 }
 
@@ -92,40 +119,32 @@ fn reject(words: &mut [u64], b: Book, s: Step) -> Outcome
     let gone = l.gone;
     Outcome {
         said: lines::words::rejected(r),
-        book: ledger::let_go(b, gone, l.places),
+        book: b.let_go(gone, l.places),
     }
 }
 
-fn lets_go(words: &mut [u64], s: Step) -> Reported<Result<u64, Refusal>>
-    ensures { Goes (letting_go s s.call) words.old words.new (let_go_says result.answer) result.places result.gone }
+// Every seat is kept but the peer's.
+fn keep(words: &mut [u64], s: Step) -> Reported<Result<u64, Refusal>>
+    ensures { Goes (changes (keeping s)) words.old words.new (let_go_says result.answer) result.places result.gone }
 {
-    let h = s.hash;
-    let call = s.call;
-    match call {
-        5 => lend::expire_pending(words, s.clock),
-        6 => lend::requeue_for_retry(words, h, Some(s.first), s.clock),
-        7 => lend::release_pending(words, h, s.clock),
-        8 => lend::retire_before(words, s.first, s.clock),
-        _ => {
-            let flags = script::all_but(s.peer);
-            lend::retain_owned_by(words, &flags)
-        }
-    }
+    let flags = script::all_but(s.peer);
+    lend::retain_owned_by(words, &flags)
 }
 
-fn let_go(words: &mut [u64], b: Book, s: Step) -> Outcome
-    ensures { Plays (letting s) b words.old words.new result }
+// Any other that does: the reason is that of the report's first place.
+fn let_go(b: Book, l: Reported<Result<u64, Refusal>>) -> Outcome
+    ensures { (result.said ≡ let_go_words l.answer (get_or l.gone 8 0)) × (result.book ≡ let_go b l.gone l.places) }
 {
-    let l = lets_go(words, s);
-    let r = l.answer;
     let gone = l.gone;
     Outcome {
-        said: lines::words::let_go(r, gone[of_release::REASON]),
-        book: ledger::let_go(b, gone, l.places),
+        said: lines::words::let_go(l.answer, gone[of_release::REASON]),
+        book: b.let_go(gone, l.places),
     }
 }
 
-// How the block is waited for, with `other` blocks staged above it. The book has no part in it.
+// ---- a call in which the book has no part
+
+// How the block is waited for, with `other` blocks staged above it.
 fn look(words: &mut [u64], b: Book, s: Step) -> Outcome
     ensures { Plays (looking s) b words.old words.new result }
 {
@@ -146,57 +165,76 @@ fn look(words: &mut [u64], b: Book, s: Step) -> Outcome
     }
 }
 
-// The calls that are done or refused. `other` is the owner of the blocks, or how many peers there are; 12 asks the peer for eight blocks of the owner's too.
-fn changes(words: &mut [u64], s: Step) -> Result<(), Refusal>
-    ensures { (accepted_says result ≡ (perform (changing s s.call) words.old []).answer)
-        × (words.new ≡ (perform (changing s s.call) words.old []).words) }
+// The peer is asked for eight blocks of their owner's too.
+fn probe(words: &mut [u64], s: Step) -> Result<(), Refusal>
+    ensures { Leaves (changes (probing s)) words.old (accepted_says result) words.new }
 {
-    let h = s.hash;
-    let call = s.call;
-    match call {
-        11 => window::confirm_cold_front_hedge(words, s.other, s.peer, h),
-        12 => {
-            let hashes = script::hashes_from(s.first);
-            let alternates = [s.peer];
-            window::confirm_prefix_probe(words, s.other, &hashes, &alternates, s.clock)
-        }
-        13 => window::set_fanout_eligible_peers(words, s.other, s.clock),
-        14 => window::clear_preferred_peer(words),
-        _ => {
-            let keys = script::keys();
-            let settings = script::settings();
-            window::open(words, settings, &keys, s.clock)
-        }
-    }
+    let hashes = script::hashes_from::<32>(s.first);
+    let alternates = [s.peer];
+    window::confirm_prefix_probe(words, s.other, &hashes, &alternates, s.clock)
 }
 
-fn change(words: &mut [u64], b: Book, s: Step) -> Outcome
-    ensures { Plays (doing s) b words.old words.new result }
+fn open(words: &mut [u64], s: Step) -> Result<(), Refusal>
+    ensures { Leaves (opening s) words.old (accepted_says result) words.new }
 {
-    let r = changes(words, s);
+    let keys = script::keys();
+    let settings = script::settings();
+    window::open(words, settings, &keys, s.clock)
+}
+
+// A call that is done or refused.
+fn done(b: Book, r: Result<(), Refusal>) -> Outcome
+    ensures { (result.said ≡ accepted r) × (result.book ≡ b) }
+{
     Outcome {
         said: lines::words::accepted(r),
         book: b,
     }
 }
 
-// Every call but the one that plans.
-fn make(words: &mut [u64], hashes: &[u64], heights: &[u32], b: Book, p: Plan, s: Step) -> Outcome
+// ---- any call
+
+// Every call but the one that plans: that is made by `act`, and stands here as an opening. `other` is the owner of the blocks, or how many peers there are.
+fn make(
+    words: &mut [u64],
+    hashes: &[u64],
+    heights: &[u32],
+    b: Book,
+    p: Option<Plan>,
+    s: Step,
+) -> Outcome
     ensures { Plays (making s p hashes.now heights.now) b words.old words.new result }
 {
-    let call = s.call;
-    match call {
-        1 => ask(words, hashes, heights, b, p, s),
-        2 => fetch(words, b, s),
-        3 => receive(words, b, s),
-        4 => reject(words, b, s),
-        10 => look(words, b, s),
-        _ => {
-            if (call >= 5) & (call <= 9) {
-                return let_go(words, b, s);
-            }
-            change(words, b, s)
+    let h = s.hash;
+    match s.call {
+        Call::MarkRequested => ask(words, hashes, heights, b, p, s),
+        Call::MarkOwnedFetch => fetch(words, b, s),
+        Call::MarkReceivedFrom => receive(words, b, s),
+        Call::RejectDelivery => reject(words, b, s),
+        Call::ExpirePending => let_go(b, lend::expire_pending(words, s.clock)),
+        Call::RequeueForRetry => {
+            let_go(b, lend::requeue_for_retry(words, h, Some(s.first), s.clock))
         }
+        Call::ReleasePending => let_go(b, lend::release_pending(words, h, s.clock)),
+        Call::RetireBefore => let_go(b, lend::retire_before(words, s.first, s.clock)),
+        Call::RetainOwnedBy => let_go(b, keep(words, s)),
+        Call::ObserveBlocked => look(words, b, s),
+        Call::ConfirmColdFrontHedge => {
+            done(
+                b,
+                window::confirm_cold_front_hedge(words, s.other, s.peer, h),
+            )
+        }
+        Call::ConfirmPrefixProbe => done(b, probe(words, s)),
+        Call::SetFanoutEligiblePeers => {
+            done(
+                b,
+                window::set_fanout_eligible_peers(words, s.other, s.clock),
+            )
+        }
+        Call::ClearPreferredPeer => done(b, window::clear_preferred_peer(words)),
+        Call::Open => done(b, open(words, s)),
+        Call::NextPeerRequest => done(b, open(words, s)),
     }
 }
 
@@ -207,7 +245,7 @@ fn propose(
     heights: &mut [u32],
     staged: &[u64],
     b: Book,
-    p: Plan,
+    p: Option<Plan>,
     s: Step,
 ) -> Turn
     ensures { Turns (planning s staged.now (length hashes.old) (length heights.old)) planned_by (kept p hashes.old heights.old staged.now) b
@@ -216,46 +254,47 @@ fn propose(
     let tip = script::height_of(s.other);
     let n = script::words_to(tip);
     let chain = script::chain();
-    let l = lend::next_peer_request(
-        words,
-        hashes,
-        heights,
-        s.peer,
-        &chain[..n],
+    let given = Given {
+        chain: &chain[..n],
         tip,
-        s.first,
-        tip,
-        0,
+        start: s.first,
+        best: tip,
+        floor: 0,
         staged,
-        &staged[..0],
-        false,
-        ROOM,
-        s.count as u64,
-        s.clock,
-    );
+        refused: &staged[..0],
+        exhausted: false,
+        byte_headroom: ROOM,
+        count_headroom: s.count as u64,
+    };
+    let l = lend::next_peer_request(words, hashes, heights, s.peer, given, s.clock);
     let r = l.answer;
     let gone = l.gone;
     Turn {
         said: lines::words::planned(r, gone[of_release::REASON]),
-        book: ledger::let_go(b, gone, l.places),
+        book: b.let_go(gone, l.places),
         plan: script::planned(r, heights),
     }
 }
 
-// One call of the script.
+fn plans(call: Call) -> bool
+    ensures { result ≡ plans_by call }
+{
+    matches!(call, Call::NextPeerRequest)
+}
+
+// One call of the script. The lists are lent one by one, of any length, as the public calls take them: a struct of references would be taken apart again in each call.
 pub fn act(
     words: &mut [u64],
     hashes: &mut [u64],
     heights: &mut [u32],
     staged: &[u64],
     b: Book,
-    p: Plan,
+    p: Option<Plan>,
     s: Step,
 ) -> Turn
     ensures { TurnsBy s (kept p hashes.old heights.old staged.now) b words.old words.new hashes.new heights.new result }
 {
-    let call = s.call;
-    if call == 15 {
+    if plans(s.call) {
         return propose(words, hashes, heights, staged, b, p, s);
     }
     let d = make(words, hashes, heights, b, p, s);

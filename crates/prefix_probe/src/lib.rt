@@ -7,7 +7,7 @@ ghost use Rattle.model.specs.Layout.{window_of, blank};
 ghost use Rattle.laws.specs.Whole.{Whole};
 ghost use Rattle.prefix_probe.specs.Walks.{behind, follows, Walked};
 
-use model::sizes;
+use model::{Words, sizes};
 
 // How far the walk went: the number of entries, their places, the height expected next.
 #[derive(Clone, Copy)]
@@ -60,7 +60,7 @@ fn nearer(here: bool, i: usize, at: usize) -> usize
     at
 }
 
-fn height_at(words: &[u64], i: usize) -> u64
+fn height_at(words: &Words, i: usize) -> u64
     requires { Whole words.now × (i < length (window_of words.now).queue.pending) }
     ensures { result ≡ (get_or (window_of words.now).queue.pending i blank).height }
 {
@@ -70,7 +70,7 @@ fn height_at(words: &[u64], i: usize) -> u64
 
 // `walk` of the entries by height: while entries are left, each turn searches them for the one at the height expected. The walk is left from inside the
 // search: at an entry that is behind, at the limit, and at the first gap.
-pub fn walk_up(words: &[u64], limit: usize, first: u64) -> Walk
+pub fn walk_up(words: &Words, limit: usize, first: u64) -> Walk
     requires { Whole words.now × ((limit ≤ 8) × (first ≤ max_height)) }
     ensures { Walked limit first (window_of words.now).queue.pending result.n result.places result.end }
 {
@@ -103,8 +103,8 @@ pub fn walk_up(words: &[u64], limit: usize, first: u64) -> Walk
         count
     };
     Walk {
-        n: n,
-        places: places,
+        n,
+        places,
         end: expected,
     }
 }

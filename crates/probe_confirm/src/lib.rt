@@ -4,7 +4,7 @@
 ghost use Rattle.std.specs.Prelude.{◌≡◌, true, ◌&&◌, ◌+◌, ◌*◌, ◌≤◌, length, eqb};
 ghost use Rattle.model.specs.Numbers.{max_clock, max_seat};
 ghost use Rattle.model.specs.Lists.{all};
-ghost use Rattle.model.specs.Hash.{same, same_hashes, hashes_in};
+ghost use Rattle.model.specs.Hash.{same_hashes, hashes_in};
 ghost use Rattle.model.specs.Layout.{window_of, planned_words};
 ghost use Rattle.model.specs.Races.{entered, probe_started, confirm_prefix_probe};
 ghost use Rattle.model.specs.Refusals.{seat_ok};
@@ -16,7 +16,7 @@ ghost use Rattle.plans.specs.Rows.{row_hash, rows_words, rows_hashes};
 ghost use Rattle.probe_hashes.specs.Rows.{Rows};
 ghost use Rattle.probe_confirm.specs.Confirms.{words_in};
 
-use model::PrefixProbe;
+use model::{Hash, PrefixProbe, Words};
 
 // ---- the given hashes
 
@@ -41,21 +41,26 @@ fn given_hashes(given: &[u64], n: usize) -> [[u64; 4]; 8]
     rows
 }
 
-// `same` of two rows.
-fn same_row(a: [u64; 4], b: [u64; 4]) -> bool
-    ensures { result ≡ same (row_hash a) (row_hash b) }
+// The hash of a row.
+fn hash_of(row: [u64; 4]) -> Hash
+    ensures { result ≡ row_hash row }
 {
-    hash::equal_words(a[0], a[1], a[2], a[3], b[0], b[1], b[2], b[3])
+    Hash {
+        a: row[0],
+        b: row[1],
+        c: row[2],
+        d: row[3],
+    }
 }
 
-// `same_hashes` of all eight rows; an array has no `==`.
+// `same_hashes` of all eight rows, hash by hash: `==` of the arrays compares words, the model's `same` numbers.
 fn same_rows(a: [[u64; 4]; 8], b: [[u64; 4]; 8]) -> bool
     ensures { result ≡ same_hashes (rows_hashes 8 a) (rows_hashes 8 b) }
 {
     for i in 0..8 {
         let x = a[i];
         let y = b[i];
-        if !same_row(x, y) {
+        if !hash::equal(hash_of(x), hash_of(y)) {
             return false;
         }
     }
@@ -77,7 +82,7 @@ fn is_plan(rows: [[u64; 4]; 8], n: usize, given: &[u64]) -> bool
 // ---- the race begins
 
 // The probe with the hashes of n rows; its racers as they were.
-fn set_rows(words: &mut [u64], x: Option<PrefixProbe>, n: u64, rows: [[u64; 4]; 8])
+fn set_rows(words: &mut Words, x: Option<PrefixProbe>, n: u64, rows: [[u64; 4]; 8])
     requires { Whole words.old × (probe_fits x × Rows n rows) }
     ensures { Holds (with_probe x (rows_hashes n rows) (window_of words.old).races.racers (window_of words.old)) words.new }
 {
@@ -86,7 +91,7 @@ fn set_rows(words: &mut [u64], x: Option<PrefixProbe>, n: u64, rows: [[u64; 4]; 
 }
 
 // `entered`
-fn enter_all(words: &mut [u64], alternates: &[u64])
+fn enter_all(words: &mut Words, alternates: &[u64])
     requires { Whole words.old × (all seat_ok alternates.now ≡ true) }
     ensures { Holds (with_probe (window_of words.old).races.probe (window_of words.old).races.planned (entered alternates.now (window_of words.old).races.racers) (window_of words.old)) words.new }
 {
@@ -98,7 +103,7 @@ fn enter_all(words: &mut [u64], alternates: &[u64])
 
 // `probe_started`
 fn start_probe(
-    words: &mut [u64],
+    words: &mut Words,
     owner: u64,
     n: u64,
     rows: [[u64; 4]; 8],
@@ -123,7 +128,7 @@ fn start_probe(
 
 // `confirm_prefix_probe`
 pub fn confirm_prefix_probe(
-    words: &mut [u64],
+    words: &mut Words,
     owner: u64,
     given: &[u64],
     alternates: &[u64],

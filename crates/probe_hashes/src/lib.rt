@@ -16,12 +16,12 @@ ghost use Rattle.plans.specs.Rows.{rows_words};
 ghost use Rattle.probe_plan.specs.Plans.{Plans};
 ghost use Rattle.probe_hashes.specs.Rows.{hashes_of};
 
-use model::sizes;
+use model::{Words, sizes};
 use plans::PlanAnswer;
 use probe_plan::Planning;
 
 // The hash of an entry.
-fn row_at(words: &[u64], at: usize) -> [u64; 4]
+fn row_at(words: &Words, at: usize) -> [u64; 4]
     requires { Whole words.now × (at < length (window_of words.now).queue.pending) }
     ensures { result ≡ hash_words (get_or (window_of words.now).queue.pending at blank).hash }
 {
@@ -41,7 +41,7 @@ fn how_many(n: usize) -> usize
 }
 
 // The hashes of `prefix_probe_plan`, and 0 after them.
-pub fn plan_hashes(words: &[u64], p: Planning) -> [[u64; 4]; 8]
+pub fn plan_hashes(words: &Words, p: Planning) -> [[u64; 4]; 8]
     requires { Whole words.now × Plans p (window_of words.now) }
     ensures { rows_words 8 result ≡ planned_words (hashes_of (prefix_probe_plan (window_of words.now))) }
 {
@@ -56,7 +56,7 @@ pub fn plan_hashes(words: &[u64], p: Planning) -> [[u64; 4]; 8]
 }
 
 // `prefix_probe_plan`, whole: its numbers and its hashes.
-pub fn prefix_probe_plan(words: &[u64]) -> PlanAnswer
+pub fn prefix_probe_plan(words: &Words) -> PlanAnswer
     requires { Whole words.now × (Ranged (window_of words.now) × (min_estimate ≤ (window_of words.now).mean)) }
     ensures { (plan_answer_says result ≡ says 0 (plan_values (prefix_probe_plan (window_of words.now))))
         × (result.hashes ≡ pad 32 0 (planned_part result)) }

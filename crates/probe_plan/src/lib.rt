@@ -5,12 +5,12 @@ ghost use Rattle.std.specs.Prelude.{◌≡◌, not, ◌≤◌, ◌<◌, length, 
 ghost use Rattle.model.specs.Numbers.{min_estimate};
 ghost use Rattle.model.specs.Lists.{any};
 ghost use Rattle.model.specs.Layout.{window_of};
-ghost use Rattle.model.specs.Races.{plan_limit, is_missing, is_seat, is_probing, probe_offered};
+ghost use Rattle.model.specs.Races.{plan_limit, probe_offered};
 ghost use Rattle.laws.specs.Whole.{Whole};
 ghost use Rattle.laws.specs.Pending.{Ranged};
 ghost use Rattle.probe_plan.specs.Plans.{header_by, Plans, busy, passed};
 
-use model::{Hash, Plan, PrefixProbe, limits, sizes};
+use model::{Hash, Plan, PrefixProbe, Words, limits, sizes};
 
 // A plan's owner and walk; without a plan n is 0.
 #[derive(Clone, Copy)]
@@ -21,46 +21,23 @@ pub struct Planning {
     pub end: u64,
 }
 
-// `is_missing`
-fn is_missing(s: Option<u64>) -> bool
-    ensures { result ≡ is_missing s }
-{
-    s.is_none()
-}
-
-// `is_seat`
-fn is_seat(s: Option<u64>, seat: u64) -> bool
-    ensures { result ≡ is_seat s seat }
-{
-    s.is_some_and(|p| p == seat)
-}
-
-// `is_probing`
-fn is_probing(p: Option<PrefixProbe>) -> bool
-    ensures { result ≡ is_probing p }
-{
-    p.is_some()
-}
-
 // A peer is preferred, a probe runs, or the fan-out is engaged.
-fn is_busy(words: &[u64]) -> bool
-    requires { length words.now ≡ 4096 }
+fn is_busy(words: &Words) -> bool
     ensures { result ≡ busy (window_of words.now) }
 {
-    let s = state::get_preferred(words);
-    if !is_missing(s) {
+    let preferred = state::get_preferred(words);
+    if preferred.is_some() {
         return true;
     }
-    let p = state_races::get_probe(words);
-    if is_probing(p) {
+    let probe = state_races::get_probe(words);
+    if probe.is_some() {
         return true;
     }
-    let f = state::get_fanout(words);
-    f.engaged
+    state::get_fanout(words).engaged
 }
 
 // Some entry has another owner.
-fn has_another(words: &[u64], owner: u64) -> bool
+fn has_another(words: &Words, owner: u64) -> bool
     requires { Whole words.now }
     ensures { result ≡ any (λ e. not (eqb e.owner owner)) (window_of words.now).queue.pending }
 {
@@ -75,12 +52,12 @@ fn has_another(words: &[u64], owner: u64) -> bool
 }
 
 // The owner was raced already, or is not the only one.
-fn is_passed(words: &[u64], owner: u64) -> bool
+fn is_passed(words: &Words, owner: u64) -> bool
     requires { Whole words.now }
     ensures { result ≡ passed (window_of words.now) owner }
 {
-    let s = state::get_attempted(words);
-    if is_seat(s, owner) {
+    let attempted = state::get_attempted(words);
+    if attempted == Some(owner) {
         return true;
     }
     has_another(words, owner)
@@ -109,7 +86,7 @@ fn no_planning() -> Planning
 }
 
 // `prefix_probe_plan`, with the places of its entries.
-pub fn make_plan(words: &[u64]) -> Planning
+pub fn make_plan(words: &Words) -> Planning
     requires { Whole words.now × (Ranged (window_of words.now) × (min_estimate ≤ (window_of words.now).mean)) }
     ensures { Plans result (window_of words.now) }
 {
@@ -134,7 +111,7 @@ pub fn make_plan(words: &[u64]) -> Planning
     Planning {
         owner: front.owner,
         n: w.n,
-        places: places,
+        places,
         end: w.end,
     }
 }
@@ -146,7 +123,7 @@ pub fn header_of(p: Planning) -> Option<Plan>
     if p.n < sizes::WIN_BLOCKS {
         return None;
     }
-    let end = numbers::minus(p.end, 1);
+    let end = p.end.saturating_sub(1);
     Some(Plan {
         owner: p.owner,
         count: p.n as u64,
@@ -155,12 +132,13 @@ pub fn header_of(p: Planning) -> Option<Plan>
 }
 
 // `probe_offered`
-pub fn probe_offered(words: &[u64], source: u64, h: Hash) -> bool
+#[tactic(auto, unfolding(model::specs::Races::probe_offered))]
+pub fn probe_offered(words: &Words, source: u64, h: Hash) -> bool
     requires { Whole words.now × (source < 256) }
     ensures { result ≡ probe_offered source h (window_of words.now) }
 {
-    let p = state_races::get_probe(words);
-    if !is_probing(p) {
+    let probe = state_races::get_probe(words);
+    if probe.is_none() {
         return false;
     }
     if !state_races::is_planned(words, h) {

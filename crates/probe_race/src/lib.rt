@@ -2,7 +2,7 @@
 // answer is how many. The last clock is not set here.
 #![tactic(auto)]
 
-ghost use Rattle.std.specs.Prelude.{◌≡◌, cond, not, ◌||◌, ◌≤◌, ◌<◌, ◌^◌, length, get_or, eqb};
+ghost use Rattle.std.specs.Prelude.{◌≡◌, cond, not, ◌||◌, ◌≤◌, ◌<◌, ◌^◌, get_or, eqb};
 ghost use Rattle.model.specs.Numbers.{max_seat, max_clock, present};
 ghost use Rattle.model.specs.Layout.{window_of};
 ghost use Rattle.model.specs.Cooling.{key_of, mark_peer_unresponsive};
@@ -16,7 +16,7 @@ ghost use Rattle.report_words.specs.Report.{releases_of};
 ghost use Rattle.probe_race.specs.Race.{noted};
 ghost use Rattle.probe_race.specs.Scans.{Flags};
 
-use model::{ColdFront, Hash, Observation, PrefixProbe, sizes};
+use model::{ColdFront, Gone, Hash, Observation, PrefixProbe, Reason, Words, sizes};
 
 // ---- a racer's progress
 
@@ -59,7 +59,7 @@ fn progressed(i: usize, bit: u64, racer: u64) -> u64
 // ---- the race in the words
 
 // `place_of`, among the planned.
-fn place_of(words: &[u64], h: Hash) -> usize
+fn place_of(words: &Words, h: Hash) -> usize
     requires { Whole words.now }
     ensures { result ≡ place_of h (window_of words.now).races.planned }
 {
@@ -74,8 +74,7 @@ fn place_of(words: &[u64], h: Hash) -> usize
 }
 
 // `winner`, from the lowest seat on.
-fn winner(words: &[u64]) -> Option<u64>
-    requires { length words.now ≡ 4096 }
+fn winner(words: &Words) -> Option<u64>
     ensures { (result ≡ winner 0 (window_of words.now).races.racers) × SoundSource result }
 {
     for seat in 0..sizes::SEATS {
@@ -100,8 +99,7 @@ fn race_flag(racer: u64, won: bool) -> u64
     1
 }
 
-fn race_flags(words: &[u64], win: usize) -> [u64; sizes::SEATS]
-    requires { length words.now ≡ 4096 }
+fn race_flags(words: &Words, win: usize) -> [u64; sizes::SEATS]
     ensures { Flags win (window_of words.now).races.racers 256 result }
 {
     let mut flags = [0; sizes::SEATS];
@@ -115,7 +113,7 @@ fn race_flags(words: &[u64], win: usize) -> [u64; sizes::SEATS]
 // ---- its end
 
 // What a win ends: the probe, the cold front, the observation.
-fn end_races(words: &mut [u64])
+fn end_races(words: &mut Words)
     requires { Whole words.old }
     ensures { Holds (with_observation Unarmed (with_cold Idle (without_probe (window_of words.old)))) words.new }
 {
@@ -127,7 +125,7 @@ fn end_races(words: &mut [u64])
 }
 
 // An owner that did not win is cooled.
-fn cool_loser(words: &mut [u64], win: usize, owner: usize, clock: u64)
+fn cool_loser(words: &mut Words, win: usize, owner: usize, clock: u64)
     requires { Whole words.old × ((owner < 256) × ((clock ≤ max_clock) × (key_of owner (window_of words.old) ≤ max_seat))) }
     ensures { Holds (cond (eqb win owner) (window_of words.old) (mark_peer_unresponsive owner clock (window_of words.old))) words.new }
 {
@@ -138,8 +136,8 @@ fn cool_loser(words: &mut [u64], win: usize, owner: usize, clock: u64)
 }
 
 // `race_won`
-fn race_won(words: &mut [u64], gone: &mut [u64], win: u64, owner: u64, clock: u64) -> usize
-    requires { Whole words.old × (Sound clock (window_of words.old) × ((length gone.old ≡ 2304) × ((win ≤ max_seat) × (owner ≤ max_seat)))) }
+fn race_won(words: &mut Words, gone: &mut Gone, win: u64, owner: u64, clock: u64) -> usize
+    requires { Whole words.old × (Sound clock (window_of words.old)) × (win ≤ max_seat) × (owner ≤ max_seat) }
     ensures { (result ≤ 256)
         × (Holds (race_won win owner (window_of words.old).races.racers clock (window_of words.old)).window words.new)
         × (releases_of result gone.new ≡ (race_won win owner (window_of words.old).races.racers clock (window_of words.old)).gone) }
@@ -149,14 +147,14 @@ fn race_won(words: &mut [u64], gone: &mut [u64], win: u64, owner: u64, clock: u6
     let preferred = Some(win);
     let flags = race_flags(words, first);
     end_races(words);
-    let n = retain::retain_peer_assignments(words, gone, &flags, 9);
+    let n = retain::retain_peer_assignments(words, gone, &flags, Reason::PrefixRaceLost);
     cool_loser(words, first, o, clock);
     state::set_preferred(words, preferred);
     n
 }
 
 // Without a winner the probe goes on, unless all four are in.
-fn race_on(words: &mut [u64], owner: u64, accepted: u64, started: u64)
+fn race_on(words: &mut Words, owner: u64, accepted: u64, started: u64)
     requires { Whole words.old × (started ≤ max_clock) }
     ensures { Holds (cond (all_four accepted) (without_probe (window_of words.old)) (with_probe (probing owner accepted started) (window_of words.old).races.planned (window_of words.old).races.racers (window_of words.old))) words.new }
 {
@@ -175,7 +173,7 @@ fn race_on(words: &mut [u64], owner: u64, accepted: u64, started: u64)
 // ---- a delivery
 
 // The planned hash at the place i came from the source.
-fn note_progress(words: &mut [u64], i: usize, bit: u64, source: usize)
+fn note_progress(words: &mut Words, i: usize, bit: u64, source: usize)
     requires { Whole words.old × ((bit ≡ 2 ^ i) × ((bit < 256) × ((source < 256) × (get_or (window_of words.old).races.racers source 0 ≤ 256)))) }
     ensures { Holds (noted i source (window_of words.old)) words.new }
 {
@@ -186,8 +184,8 @@ fn note_progress(words: &mut [u64], i: usize, bit: u64, source: usize)
 
 // `race_progress`
 fn race_progress(
-    words: &mut [u64],
-    gone: &mut [u64],
+    words: &mut Words,
+    gone: &mut Gone,
     i: usize,
     source: u64,
     owner: u64,
@@ -195,7 +193,7 @@ fn race_progress(
     started: u64,
     clock: u64,
 ) -> usize
-    requires { Whole words.old × (Sound clock (window_of words.old) × ((length gone.old ≡ 2304) × ((i < 8) × ((source ≤ max_seat) × (((window_of words.old).races.probe ≡ probing owner accepted started)))))) }
+    requires { Whole words.old × (Sound clock (window_of words.old)) × (i < 8) × (source ≤ max_seat) × ((window_of words.old).races.probe ≡ probing owner accepted started) }
     ensures { (result ≤ 256)
         × (Holds (race_progress i source owner accepted started clock (window_of words.old)).window words.new)
         × (releases_of result gone.new ≡ (race_progress i source owner accepted started clock (window_of words.old)).gone) }
@@ -216,13 +214,13 @@ fn race_progress(
 
 // `record_prefix_probe_delivery`
 pub fn record_prefix_probe_delivery(
-    words: &mut [u64],
-    gone: &mut [u64],
+    words: &mut Words,
+    gone: &mut Gone,
     h: Hash,
     source: u64,
     clock: u64,
 ) -> usize
-    requires { Whole words.old × (Sound clock (window_of words.old) × ((length gone.old ≡ 2304) × (source ≤ max_seat))) }
+    requires { Whole words.old × (Sound clock (window_of words.old)) × (source ≤ max_seat) }
     ensures { (result ≤ 256)
         × (Holds (record_prefix_probe_delivery h source clock (window_of words.old)).window words.new)
         × (releases_of result gone.new ≡ (record_prefix_probe_delivery h source clock (window_of words.old)).gone) }

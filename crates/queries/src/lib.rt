@@ -1,7 +1,7 @@
 // The queries that are more than a part of the window read: each is the model's, of the window that the words hold. They write nothing.
 #![tactic(auto)]
 
-ghost use Rattle.std.specs.Prelude.{◌≡◌, true, suc, ◌<◌, ◌≤◌, length};
+ghost use Rattle.std.specs.Prelude.{◌≡◌, true, suc, ◌<◌, ◌≤◌};
 ghost use Rattle.model.specs.Numbers.{max_front_mean};
 ghost use Rattle.model.specs.Capacity.{has_request_capacity, compute_request_capacity, effective_peer_inflight};
 ghost use Rattle.model.specs.Pace.{stall_decay_floor};
@@ -15,13 +15,12 @@ ghost use Rattle.capacity.specs.OnNumbers.{batch_says};
 ghost use Rattle.laws.specs.Whole.{Whole};
 ghost use Rattle.queries.specs.Values.{seated};
 
-use model::{Entry, Hash, StallEpisode};
+use model::{Entry, Hash, StallEpisode, Words};
 
 // ---- capacity
 
 // `effective_peer_inflight`
-pub fn effective_peer_inflight(words: &[u64]) -> u64
-    requires { length words.now ≡ 4096 }
+pub fn effective_peer_inflight(words: &Words) -> u64
     ensures { result ≡ effective_peer_inflight (window_of words.now) }
 {
     let b = state::get_settings(words);
@@ -30,7 +29,7 @@ pub fn effective_peer_inflight(words: &[u64]) -> u64
 }
 
 // `has_request_capacity`
-pub fn has_request_capacity(words: &[u64], byte_headroom: u64, count_headroom: u64) -> bool
+pub fn has_request_capacity(words: &Words, byte_headroom: u64, count_headroom: u64) -> bool
     requires { Whole words.now }
     ensures { result ≡ has_request_capacity byte_headroom count_headroom (window_of words.now) }
 {
@@ -43,7 +42,7 @@ pub fn has_request_capacity(words: &[u64], byte_headroom: u64, count_headroom: u
 
 // `compute_request_capacity`
 pub fn compute_request_capacity(
-    words: &[u64],
+    words: &Words,
     source: u64,
     byte_headroom: u64,
     count_headroom: u64,
@@ -64,8 +63,8 @@ pub fn compute_request_capacity(
 // ---- pace and seats
 
 // `stall_decay_floor`
-pub fn stall_decay_floor(words: &[u64]) -> u64
-    requires { (length words.now ≡ 4096) × ((window_of words.now).pace.mean ≤ suc max_front_mean) }
+pub fn stall_decay_floor(words: &Words) -> u64
+    requires { (window_of words.now).pace.mean ≤ suc max_front_mean }
     ensures { result ≡ stall_decay_floor (window_of words.now).settings (window_of words.now).pace }
 {
     let b = state::get_settings(words);
@@ -74,16 +73,16 @@ pub fn stall_decay_floor(words: &[u64]) -> u64
 }
 
 // `is_downloading`
-pub fn is_downloading(words: &[u64], seat: usize) -> bool
-    requires { (length words.now ≡ 4096) × (seat < 256) }
+pub fn is_downloading(words: &Words, seat: usize) -> bool
+    requires { seat < 256 }
     ensures { result ≡ is_downloading seat (window_of words.now).queue.starts }
 {
     numbers::present(state::start_of(words, seat))
 }
 
 // `stall_values`: the key of the stalling seat, and since when.
-pub fn stalling_peer(words: &[u64]) -> Option<(u64, u64)>
-    requires { (length words.now ≡ 4096) × seated (window_of words.now).watch.stall }
+pub fn stalling_peer(words: &Words) -> Option<(u64, u64)>
+    requires { seated (window_of words.now).watch.stall }
     ensures { perhaps_pair_answer result ≡ says 0 (stall_values (window_of words.now).watch.stall (window_of words.now)) }
 {
     let s = state::get_stall(words);
@@ -99,7 +98,7 @@ pub fn stalling_peer(words: &[u64]) -> Option<(u64, u64)>
 // ---- the entry of a hash
 
 // `found`, among records that rise
-pub fn found(words: &[u64], h: Hash) -> Option<Entry>
+pub fn found(words: &Words, h: Hash) -> Option<Entry>
     requires { Whole words.now × (rising (window_of words.now).queue.pending ≡ true) }
     ensures { result ≡ found h (window_of words.now).queue.pending }
 {
@@ -114,19 +113,15 @@ pub fn found(words: &[u64], h: Hash) -> Option<Entry>
 }
 
 // `is_there` of `found`
-pub fn contains_pending(words: &[u64], h: Hash) -> bool
+pub fn contains_pending(words: &Words, h: Hash) -> bool
     requires { Whole words.now × (rising (window_of words.now).queue.pending ≡ true) }
     ensures { result ≡ is_there (found h (window_of words.now).queue.pending) }
 {
-    let p = state_queue::find(words, h);
-    match p {
-        Ok(_) => true,
-        Err(_) => false,
-    }
+    state_queue::find(words, h).is_ok()
 }
 
 // `owner_values` of `found`
-pub fn pending_owner(words: &[u64], h: Hash) -> Option<u64>
+pub fn pending_owner(words: &Words, h: Hash) -> Option<u64>
     requires { Whole words.now × (rising (window_of words.now).queue.pending ≡ true) }
     ensures { source_values result ≡ owner_values (found h (window_of words.now).queue.pending) }
 {

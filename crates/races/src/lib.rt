@@ -2,7 +2,7 @@
 // answer is how many. The last clock is not set here.
 #![tactic(auto)]
 
-ghost use Rattle.std.specs.Prelude.{◌≡◌, ℕ, ◌≤◌, ◌<◌, length};
+ghost use Rattle.std.specs.Prelude.{◌≡◌, ℕ, ◌≤◌, ◌<◌};
 ghost use Rattle.model.specs.Layout.{window_of};
 ghost use Rattle.model.specs.Races.{hedge_lost, resolve_by, resolve_cold_front_delivery};
 ghost use Rattle.laws.specs.Sound.{Sound, SoundCold};
@@ -12,7 +12,7 @@ ghost use Rattle.model.specs.declared.ColdFront.TheVariants.{Racing};
 ghost use Rattle.report_words.specs.Report.{releases_of};
 ghost use Rattle.races.specs.Hedges.{resolved, Seated};
 
-use model::{ColdFront, Hash, sizes};
+use model::{ColdFront, Gone, Hash, Reason, Words, sizes};
 
 // What a delivery means to the cold front: nothing, its end, or that its owner lost to the alternate.
 #[derive(Clone, Copy)]
@@ -52,14 +52,8 @@ fn resolve_as(cold: ColdFront, h: Hash, source: u64) -> Resolution
 }
 
 // `hedge_lost`
-fn hedge_lost(
-    words: &mut [u64],
-    gone: &mut [u64],
-    owner: usize,
-    alternate: u64,
-    clock: u64,
-) -> usize
-    requires { Whole words.old × (Sound clock (window_of words.old) × ((length gone.old ≡ 2304) × ((owner < 256) × (alternate < 256)))) }
+fn hedge_lost(words: &mut Words, gone: &mut Gone, owner: usize, alternate: u64, clock: u64) -> usize
+    requires { Whole words.old × (Sound clock (window_of words.old)) × (owner < 256) × (alternate < 256) }
     ensures { (result ≤ 256)
         × (Holds (hedge_lost owner alternate clock (window_of words.old)).window words.new)
         × (releases_of result gone.new ≡ (hedge_lost owner alternate clock (window_of words.old)).gone) }
@@ -68,7 +62,7 @@ fn hedge_lost(
     flags[owner] = 0;
     let preferred = Some(alternate);
     state_races::clear_probe(words);
-    let n = retain::retain_peer_assignments(words, gone, &flags, 10);
+    let n = retain::retain_peer_assignments(words, gone, &flags, Reason::HedgeLost);
     state_cooling::mark_peer_unresponsive(words, owner, clock);
     state::set_preferred(words, preferred);
     n
@@ -76,13 +70,13 @@ fn hedge_lost(
 
 // `resolve_cold_front_delivery`
 pub fn resolve_cold_front_delivery(
-    words: &mut [u64],
-    gone: &mut [u64],
+    words: &mut Words,
+    gone: &mut Gone,
     h: Hash,
     source: u64,
     clock: u64,
 ) -> usize
-    requires { Whole words.old × (Sound clock (window_of words.old) × (length gone.old ≡ 2304)) }
+    requires { Whole words.old × (Sound clock (window_of words.old)) }
     ensures { (result ≤ 256)
         × (Holds (resolve_cold_front_delivery h source clock (window_of words.old)).window words.new)
         × (releases_of result gone.new ≡ (resolve_cold_front_delivery h source clock (window_of words.old)).gone) }

@@ -4,7 +4,8 @@
 ghost use Rattle.std.specs.Prelude.{◌≡◌};
 ghost use Rattle.model.specs.Reasons.{lowering, lowers, lowered};
 
-// At each reason 1 where it lowers the frontier to the entry's height, else 0. Place 0 is no reason.
+// At each reason's number 1 where it lowers the frontier to the entry's height, else 0. Place 0 is no reason. An array, not a match: SPECIFICATION 13
+// asks for this form by name; read by the number, since a report's word says it.
 const LOWERING: [u64; 11] = [0, 0, 1, 1, 0, 0, 1, 1, 1, 1, 1];
 
 // The table is the model's, whose rule, "all but 1, 4 and 5", is checked there.

@@ -1,38 +1,41 @@
 -- The arguments of a call from a place on. Definitions only.
-use Rattle.std.specs.Prelude.{ℕ, suc, List}
-use Rattle.model.specs.declared.Hash.{Hash}
+use Rattle.std.specs.Prelude.{ℕ, ◌+◌, List, min, take, slice_index}
 use Rattle.model.specs.declared.Settings.{Settings}
-use Rattle.recorded.specs.Stream.{on, nth, hash_from, row_at, heights_at, length_at}
-use Rattle.recorded.specs.declared.Args.{Args}
-use Rattle.recorded.specs.declared.Asked.{Asked}
-use Rattle.recorded.specs.declared.Confirmed.{Confirmed}
+use Rattle.recorded.specs.Stream.{on, nth, row_at}
 use Rattle.recorded.specs.declared.Opening.{Opening}
 
--- twelve numbers, four at a time, and the hashes that begin at the first four
-abbrev pub args_by : Hash → Hash → Hash → Hash → Hash → Hash → Args
-args_by first second third fourth next last =
-    record { a = first.a; b = first.b; c = first.c; d = first.d; e = next.a; f = next.b; g = next.c; h = next.d; i = last.a; j = last.b; k = last.c; l = last.d; hash0 = first; hash1 = second; hash2 = third; hash3 = fourth }
-
-unfoldable pub args_at : List ℕ → ℕ → Args
-args_at ns place =
-    args_by (hash_from ns place) (hash_from ns (on place 1)) (hash_from ns (on place 2)) (hash_from ns (on place 3)) (hash_from ns (on place 4)) (hash_from ns (on place 8))
-
-abbrev pub settings_of : Args → Settings
-settings_of x =
-    record { max_pending_blocks = x.a; max_pending_bytes = x.b; max_received_blocks = x.c; max_peer_inflight = x.d; fanout_peer_inflight = x.e; min_peers_for_fanout = x.f; getdata_batch_limit = x.g; block_spacing = x.h; received_timeout = x.i; stall_timeout_initial = x.j; stall_timeout_max = x.k; staller_cooldown = x.l }
+abbrev pub settings_at : List ℕ → ℕ → Settings
+settings_at ns place = record {
+  max_pending_blocks = nth ns place 0;
+  max_pending_bytes = nth ns place 1;
+  max_received_blocks = nth ns place 2;
+  max_peer_inflight = nth ns place 3;
+  fanout_peer_inflight = nth ns place 4;
+  min_peers_for_fanout = nth ns place 5;
+  getdata_batch_limit = nth ns place 6;
+  block_spacing = nth ns place 7;
+  received_timeout = nth ns place 8;
+  stall_timeout_initial = nth ns place 9;
+  stall_timeout_max = nth ns place 10;
+  staller_cooldown = nth ns place 11;
+}
 
 -- twelve settings, how many keys, the keys, the clock
-unfoldable pub opening_at : List ℕ → ℕ → Opening
-opening_at ns place = record { settings = settings_of (args_at ns place); keys = row_at 256 ns (on place 13); clock = nth ns place 269 }
+abbrev pub opening_at : List ℕ → ℕ → Opening
+opening_at ns place = record { settings = settings_at ns place; keys = row_at (λ n. n) 256 ns (on place 13); clock = nth ns place 269 }
 
--- after k plain arguments a list of words of hashes with its length before it, and then a second list: where that one's length stands
+-- after k plain arguments a list of words of hashes with its length before it, at most 1,024
+abbrev pub words_at : ℕ → List ℕ → ℕ → List ℕ
+words_at k ns place = take (min (nth ns place k) 1024) (row_at (λ n. n) 1024 ns (on place (k + 1)))
+
+-- and then a second list: where its length stands
 abbrev pub second_list : ℕ → List ℕ → ℕ → ℕ
-second_list k ns place = on (on place (suc k)) (length_at ns (on place k) 1024)
+second_list k ns place = on (on place (k + 1)) (min (nth ns place k) 1024)
 
-unfoldable pub asked_at : List ℕ → ℕ → Asked
-asked_at ns place =
-    record { n = length_at ns (on place 5) 1024; hashes = row_at 1024 ns (on place 6); m = length_at ns (second_list 5 ns place) 256; heights = heights_at 256 ns (on (second_list 5 ns place) 1) }
+module _ {A : Type 0} (of : ℕ → A) where
+  abbrev pub behind_words : ℕ → List ℕ → ℕ → List A
+  behind_words k ns place = take (min (slice_index ns (second_list k ns place)) 256) (row_at of 256 ns (on (second_list k ns place) 1))
 
-unfoldable pub confirmed_at : List ℕ → ℕ → Confirmed
-confirmed_at ns place =
-    record { n = length_at ns (on place 2) 1024; given = row_at 1024 ns (on place 3); m = length_at ns (second_list 2 ns place) 256; others = row_at 256 ns (on (second_list 2 ns place) 1) }
+-- one list: a flag for each seat
+abbrev pub flags_at : List ℕ → ℕ → List ℕ
+flags_at ns place = row_at (λ n. n) 256 ns (on place 1)

@@ -1,7 +1,8 @@
 -- Where the parts of a record stand, and what its runs do to the words. Definitions only.
-use Rattle.std.specs.Prelude.{ℕ, zero, suc, ◌-◌, ◌*◌, ◌%◌, ◌^◌, cond, ◌&&◌, List, nat_le, nat_lt, slice_index}
+use Rattle.std.specs.Bool.{then_some}
+use Rattle.std.specs.Prelude.{Option, ℕ, zero, suc, ◌-◌, ◌*◌, ◌%◌, ◌^◌, cond, ◌&&◌, List, nat_le, nat_lt, slice_index}
 use Rattle.recorded.specs.Each.{each}
-use Rattle.recorded.specs.Stream.{on, nth}
+use Rattle.recorded.specs.Stream.{on, nth, is_set}
 use Rattle.recorded.specs.declared.Record.{Record}
 
 abbrev pub nine_times : ℕ → ℕ
@@ -19,9 +20,20 @@ runs_place ns place = on (gone_place ns place) (nine_times (nth ns place 3))
 abbrev pub next_place : List ℕ → ℕ → ℕ
 next_place ns place = on (runs_place ns place) (nth ns place 4)
 
-unfoldable pub record_at : List ℕ → ℕ → Record
-record_at ns place =
-    record { kind = slice_index ns place; args = on place 5; answer = answer_place ns place; fields = nth ns place 2; gone = gone_place ns place; places = nth ns place 3; words = nine_times (nth ns place 3); runs = runs_place ns place; next = next_place ns place }
+abbrev pub parts_at : List ℕ → ℕ → Record
+parts_at ns place = record {
+  number = slice_index ns place;
+  args = on place 5;
+  answer = record { at = answer_place ns place; n = nth ns place 2 };
+  places = nth ns place 3;
+  gone = record { at = gone_place ns place; n = nine_times (nth ns place 3) };
+  runs = runs_place ns place;
+  next = next_place ns place;
+}
+
+-- the number 0 is no call
+unfoldable pub record_at : List ℕ → ℕ → Option Record
+record_at ns place = then_some (is_set (slice_index ns place)) (parts_at ns place)
 
 -- the i-th word after a run of n words from the first on, which stand two places on
 abbrev pub word_after : List ℕ → ℕ → ℕ → ℕ → ℕ → ℕ → ℕ

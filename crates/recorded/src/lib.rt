@@ -9,28 +9,7 @@ pub mod input;
 pub mod runs;
 pub mod stream;
 
-use model::{Hash, Settings};
-
-// The first twelve arguments of a call, and the hashes that begin at each of the first four.
-#[derive(Clone, Copy)]
-pub struct Args {
-    pub a: u64,
-    pub b: u64,
-    pub c: u64,
-    pub d: u64,
-    pub e: u64,
-    pub f: u64,
-    pub g: u64,
-    pub h: u64,
-    pub i: u64,
-    pub j: u64,
-    pub k: u64,
-    pub l: u64,
-    pub hash0: Hash,
-    pub hash1: Hash,
-    pub hash2: Hash,
-    pub hash3: Hash,
-}
+use model::{Settings, sizes};
 
 // The arguments of `open`.
 #[derive(Clone, Copy)]
@@ -40,43 +19,31 @@ pub struct Opening {
     pub clock: u64,
 }
 
-// The lists of `mark_requested`: how many words of hashes and how many heights there are, each with what stands from its first on.
-#[derive(Clone, Copy)]
-pub struct Asked {
-    pub n: usize,
-    pub hashes: [u64; 1024],
-    pub m: usize,
-    pub heights: [u32; 256],
-}
-
-// The lists of `confirm_prefix_probe`, in the same form.
-#[derive(Clone, Copy)]
-pub struct Confirmed {
-    pub n: usize,
-    pub given: [u64; 1024],
-    pub m: usize,
-    pub others: [u64; 256],
-}
-
-// What a call said: its fields as crates/flat has them, how many places of its report it filled, and the report.
+// What a call said: its fields as crates/flat has them, how many places of its report it filled, and the report, all of it: a place that was not filled
+// is compared too.
 #[derive(Clone, Copy)]
 pub struct Said {
     pub fields: [u64; 32],
     pub places: usize,
-    pub gone: [u64; 2304],
+    pub gone: [u64; sizes::REPORT_WORDS],
 }
 
-// Where the parts of a record stand: its arguments, the answer's fields and how many they are, the releases' words, how many releases and words they are, the
-// runs of changed words, and the next record.
+// So many numbers from a place on.
+#[derive(Clone, Copy)]
+pub struct Part {
+    pub at: u64,
+    pub n: u64,
+}
+
+// A record: the number of its call, as it stands, since a number that names no call is told too; where its arguments begin; the answer's fields; how many
+// places of the report are filled, and their words; where the runs of changed words begin, and the next record.
 #[derive(Clone, Copy)]
 pub struct Record {
-    pub kind: u64,
+    pub number: u64,
     pub args: u64,
-    pub answer: u64,
-    pub fields: u64,
-    pub gone: u64,
+    pub answer: Part,
     pub places: u64,
-    pub words: u64,
+    pub gone: Part,
     pub runs: u64,
     pub next: u64,
 }

@@ -2,45 +2,52 @@
 ghost use Rattle.std.specs.Prelude.{◌≡◌};
 ghost use Rattle.recorded.specs.Records.{nine_times, record_at, word_after, run_put, next_run, runs_put};
 
-use crate::Record;
-use crate::stream::{get, nth, on};
+use crate::stream::Place;
+use crate::{Part, Record};
 
 // A release has nine words.
 fn nine_times(n: u64) -> u64
     ensures { result ≡ nine_times n }
 {
-    let two = on(n, n);
-    let four = on(two, two);
-    on(on(four, four), n)
+    n.wrapping_mul(9)
 }
 
-// Its call, then how many arguments, fields, releases and numbers of runs there are, then these.
-pub fn record_at(numbers: &[u64], at: u64) -> Record
-    ensures { result ≡ record_at numbers.now at }
+// Its call, then how many arguments, fields, releases and numbers of runs there are, then these; none where the call is 0.
+#[tactic(auto, unfolding(crate::specs::Records::record_at))]
+pub fn record_at(p: Place) -> Option<Record>
+    ensures { result ≡ record_at p.entry.numbers.now p.entry.at }
 {
-    let args = on(at, 5);
-    let answer = on(args, nth(numbers, at, 1));
-    let fields = nth(numbers, at, 2);
-    let places = nth(numbers, at, 3);
-    let gone = on(answer, fields);
+    let number = p.get();
+    let args = p.on(5);
+    let answer = args.on(p.nth(1));
+    let fields = p.nth(2);
+    let places = p.nth(3);
+    let gone = answer.on(fields);
     let words = nine_times(places);
-    let runs = on(gone, words);
-    Record {
-        kind: get(numbers, at),
-        args,
-        answer,
-        fields,
-        gone,
+    let runs = gone.on(words);
+    let next = runs.on(p.nth(4));
+    let r = Record {
+        number,
+        args: args.at,
+        answer: Part {
+            at: answer.at,
+            n: fields,
+        },
         places,
-        words,
-        runs,
-        next: on(runs, nth(numbers, at, 4)),
-    }
+        gone: Part {
+            at: gone.at,
+            n: words,
+        },
+        runs: runs.at,
+        next: next.at,
+    };
+    (number != 0).then_some(r)
 }
 
-// A word after a run: the run's where it reaches, the old one elsewhere.
-fn word_after(numbers: &[u64], at: u64, first: u64, n: u64, i: u64, word: u64) -> u64
-    ensures { result ≡ word_after numbers.now at first n i word }
+// A word after a run of n words from the first on: the run's where it reaches, the old one elsewhere.
+#[tactic(auto, using(std::proofs::lemmas::Bool::Decides::nat_tests))]
+fn word_after(run: Place, first: u64, n: u64, i: u64, word: u64) -> u64
+    ensures { result ≡ word_after run.entry.numbers.now run.entry.at first n i word }
 {
     if i < first {
         return word;
@@ -48,23 +55,23 @@ fn word_after(numbers: &[u64], at: u64, first: u64, n: u64, i: u64, word: u64) -
     if i - first >= n {
         return word;
     }
-    nth(numbers, on(at, 2), i - first)
+    run.on(2).nth(i - first)
 }
 
-fn put_run(words: &mut [u64], numbers: &[u64], at: u64)
-    ensures { words.new ≡ run_put numbers.now at words.old }
+fn put_run(words: &mut [u64], run: Place)
+    ensures { words.new ≡ run_put run.entry.numbers.now run.entry.at words.old }
 {
-    let first = get(numbers, at);
-    let n = nth(numbers, at, 1);
+    let first = run.get();
+    let n = run.nth(1);
     for (i, word) in words.iter_mut().enumerate() {
-        *word = word_after(numbers, at, first, n, i as u64, *word);
+        *word = word_after(run, first, n, i as u64, *word);
     }
 }
 
-fn next_run(numbers: &[u64], at: u64) -> u64
-    ensures { result ≡ next_run numbers.now at }
+fn next_run(run: Place) -> u64
+    ensures { result ≡ next_run run.entry.numbers.now run.entry.at }
 {
-    on(on(at, 2), nth(numbers, at, 1))
+    run.on(2).on(run.nth(1)).at
 }
 
 // The words of all runs up to the end. A call changes at most 4,096 words, so that it has no more runs.
@@ -76,7 +83,8 @@ pub fn put_runs(words: &mut [u64], numbers: &[u64], from: u64, end: u64)
         if at >= end {
             return;
         }
-        put_run(words, numbers, at);
-        at = next_run(numbers, at);
+        let run = Place { numbers, at };
+        put_run(words, run);
+        at = next_run(run);
     }
 }

@@ -1,96 +1,149 @@
 // Places among the recorded numbers, and what stands there.
-ghost use Rattle.std.specs.Prelude.{◌≡◌, ◌≤◌, slice_index};
-ghost use Rattle.recorded.specs.Each.{each};
-ghost use Rattle.recorded.specs.Stream.{on, nth, low, hash_from, row_at, heights_at, length_at};
+ghost use Rattle.std.specs.Prelude.{◌≡◌, ◌+◌, ◌≤◌, ◌<◌, List, ℕ, min, take, slice_index};
+ghost use Rattle.recorded.specs.Stream.{on, nth, low, is_set, perhaps, perhaps_height, hash_from, row_at};
 
 use model::Hash;
+use std::marker::Model;
 
-// The number at a place, 0 past the end.
-pub(crate) fn get(numbers: &[u64], at: u64) -> u64
-    ensures { result ≡ slice_index numbers.now at }
-{
-    if at >= numbers.len() as u64 {
-        return 0;
+// The recorded numbers from a place on. A place wraps at 64 bits; past the end there are zeros.
+#[derive(Clone, Copy)]
+pub struct Place<'a> {
+    pub numbers: &'a [u64],
+    pub at: u64,
+}
+
+impl<'a> Place<'a> {
+    // The number at the place.
+    pub(crate) fn get(self) -> u64
+        ensures { result ≡ slice_index self.entry.numbers.now self.entry.at }
+    {
+        self.numbers.get(self.at as usize).copied().unwrap_or(0)
     }
-    numbers[at as usize]
-}
 
-// k places on.
-pub(crate) fn on(at: u64, k: u64) -> u64
-    ensures { result ≡ on at k }
-{
-    std::num::wrapping_add_u64(at, k)
-}
+    // k places on.
+    pub(crate) fn on(self, k: u64) -> Place<'a>
+        ensures { (result.numbers.now ≡ self.entry.numbers.now) × (result.at ≡ on self.entry.at k) }
+    {
+        Place {
+            numbers: self.numbers,
+            at: self.at.wrapping_add(k),
+        }
+    }
 
-// The number k places on.
-pub(crate) fn nth(numbers: &[u64], at: u64, k: u64) -> u64
-    ensures { result ≡ nth numbers.now at k }
-{
-    get(numbers, on(at, k))
-}
+    // The number k places on.
+    pub fn nth(self, k: u64) -> u64
+        ensures { result ≡ nth self.entry.numbers.now self.entry.at k }
+    {
+        self.on(k).get()
+    }
 
-pub(crate) fn hash_at(numbers: &[u64], at: u64) -> Hash
-    ensures { result ≡ hash_from numbers.now at }
-{
-    Hash {
-        a: nth(numbers, at, 0),
-        b: nth(numbers, at, 1),
-        c: nth(numbers, at, 2),
-        d: nth(numbers, at, 3),
+    pub fn is_set(self, k: u64) -> bool
+        ensures { result ≡ is_set (nth self.entry.numbers.now self.entry.at k) }
+    {
+        self.nth(k) != 0
+    }
+
+    // A height has 32 bits.
+    pub fn height(self, k: u64) -> u32
+        ensures { result ≡ low (nth self.entry.numbers.now self.entry.at k) }
+    {
+        u32::of_number(self.nth(k))
+    }
+
+    // A number that may be missing, by the number before it.
+    pub fn perhaps(self, k: u64) -> Option<u64>
+        requires { k < 1024 }
+        ensures { result ≡ perhaps self.entry.numbers.now self.entry.at k }
+    {
+        self.is_set(k).then_some(self.nth(k + 1))
+    }
+
+    // A height that may be missing, in the same way.
+    pub fn perhaps_height(self, k: u64) -> Option<u32>
+        requires { k < 1024 }
+        ensures { result ≡ perhaps_height self.entry.numbers.now self.entry.at k }
+    {
+        self.is_set(k).then_some(self.height(k + 1))
+    }
+
+    // Four numbers are a hash.
+    pub fn hash(self, k: u64) -> Hash
+        ensures { result ≡ hash_from self.entry.numbers.now (on self.entry.at k) }
+    {
+        let p = self.on(k);
+        Hash {
+            a: p.nth(0),
+            b: p.nth(1),
+            c: p.nth(2),
+            d: p.nth(3),
+        }
     }
 }
 
-// A height has 32 bits.
-pub fn low(x: u64) -> u32
-    ensures { result ≡ low x }
-{
-    (x % 4_294_967_296) as u32
+// What a recorded number is in a list: itself, or a height, which has 32 bits.
+pub trait Number: Copy + Drop {
+    ghost of: { ℕ → Self };
+
+    fn of_number(n: u64) -> Self
+        ensures { result ≡ of n };
 }
 
-// Fills a list with the numbers from a place on.
-fn fill(l: &mut [u64], numbers: &[u64], at: u64)
-    ensures { l.new ≡ each (λ i _. nth numbers.now at i) l.old }
+impl Number for u64 {
+    ghost of = { λ n. n };
+
+    fn of_number(n: u64) -> u64 {
+        n
+    }
+}
+
+impl Number for u32 {
+    ghost of = { λ n. low n };
+
+    fn of_number(n: u64) -> u32 {
+        (n % 4_294_967_296) as u32
+    }
+}
+
+// So many numbers from a place on.
+pub fn row<T: Number, const N: usize>(from: Place) -> [T; N]
+    ensures { result ≡ row_at T.of N from.entry.numbers.now from.entry.at }
 {
+    let mut l = [T::of_number(0); N];
     for (i, x) in l.iter_mut().enumerate() {
-        *x = nth(numbers, at, i as u64);
-    }
-}
-
-// Words of hashes.
-pub(crate) fn hashes_at(numbers: &[u64], at: u64) -> [u64; 1024]
-    ensures { result ≡ row_at 1024 numbers.now at }
-{
-    let mut l: [u64; 1024] = [0; 1024];
-    fill(&mut l, numbers, at);
-    l
-}
-
-// One number for each seat.
-pub(crate) fn seats_at(numbers: &[u64], at: u64) -> [u64; 256]
-    ensures { result ≡ row_at 256 numbers.now at }
-{
-    let mut l: [u64; 256] = [0; 256];
-    fill(&mut l, numbers, at);
-    l
-}
-
-pub(crate) fn heights_at(numbers: &[u64], at: u64) -> [u32; 256]
-    ensures { result ≡ heights_at 256 numbers.now at }
-{
-    let mut l: [u32; 256] = [0; 256];
-    for (i, height) in l.iter_mut().enumerate() {
-        *height = low(nth(numbers, at, i as u64));
+        *x = T::of_number(from.nth(i as u64));
     }
     l
 }
 
-// The length of a recorded list, at most the most.
-pub(crate) fn length_at(numbers: &[u64], at: u64, most: usize) -> usize
-    ensures { (result ≡ length_at numbers.now at most) × (result ≤ most) }
-{
-    let n = get(numbers, at);
-    if n <= most as u64 {
-        return n as usize;
+// A list of at most N, in a room for N: there is no heap, and past the end of the numbers, where a slice of them would stop, it has zeros.
+#[derive(Drop)]
+pub struct Listed<T: Drop, const N: usize> {
+    room: [T; N],
+    n: usize,
+}
+
+impl<T: Drop, const N: usize> Model for Listed<T, N> {
+    ghost Value = { List T };
+
+    ghost view = { λ l. take l.n l.room };
+
+    ghost invariant = { λ l. l.n ≤ N };
+}
+
+impl<T: Drop, const N: usize> Listed<T, N> {
+    pub fn as_slice(&self) -> &[T]
+        ensures { result.now ≡ self.now }
+    {
+        &self.room[..self.n]
     }
-    most
+}
+
+// n numbers from a place on, or the most.
+pub(crate) fn list_at<T: Number, const N: usize>(n: u64, from: Place) -> Listed<T, N>
+    ensures { result ≡ take (min n N) (row_at T.of N from.entry.numbers.now from.entry.at) }
+{
+    Listed {
+        room: row(from),
+        n: n.min(N as u64) as usize,
+    }
 }

@@ -15,12 +15,12 @@ ghost use Rattle.records.specs.Places.{Parts, Finds, front_at, stored, floored};
 ghost use Rattle.records.specs.Cleared.{all_marked};
 
 use model::sizes::COLUMNS;
-use model::{Entry, Hash, at, sizes};
+use model::{Entry, Hash, PerPlace, Words, at, sizes};
 
 // ---- one record
 
-fn hash_of(words: &[u64], i: usize) -> Hash
-    requires { (length words.now ≡ 4096) × (i < 256) }
+fn hash_of(words: &Words, i: usize) -> Hash
+    requires { i < 256 }
     ensures { result ≡ (entry_at (drop i words.now)).hash }
 {
     Hash {
@@ -32,8 +32,8 @@ fn hash_of(words: &[u64], i: usize) -> Hash
 }
 
 // The record at a place.
-pub fn entry_of(words: &[u64], i: usize) -> Entry
-    requires { (length words.now ≡ 4096) × (i < 256) }
+pub fn entry_of(words: &Words, i: usize) -> Entry
+    requires { i < 256 }
     ensures { result ≡ get_or (decode words.now).entries i blank }
 {
     let hash = hash_of(words, i);
@@ -56,8 +56,8 @@ fn remove_live(col: &mut [u64], live: usize, at: usize)
 }
 
 // `removed`: the record at `at` taken out.
-pub fn remove(words: &mut [u64], live: usize, at: usize)
-    requires { (length words.old ≡ 4096) × (live ≤ 256) × (at < live) × (drop live (decode words.old).entries ≡ replicate (256 - live) blank) }
+pub fn remove(words: &mut Words, live: usize, at: usize)
+    requires { (live ≤ 256) × (at < live) × (drop live (decode words.old).entries ≡ replicate (256 - live) blank) }
     ensures { decode words.new ≡ removed at (decode words.old) }
 {
     for k in 0..COLUMNS {
@@ -86,8 +86,8 @@ fn insert_live(col: &mut [u64], live: usize, at: usize, value: u64)
 }
 
 // `put_in`: an entry put in at `at`.
-pub fn insert(words: &mut [u64], live: usize, at: usize, e: Entry)
-    requires { (length words.old ≡ 4096) × (live < 256) × (at ≤ live) × (drop live (decode words.old).entries ≡ replicate (256 - live) blank) }
+pub fn insert(words: &mut Words, live: usize, at: usize, e: Entry)
+    requires { (live < 256) × (at ≤ live) × (drop live (decode words.old).entries ≡ replicate (256 - live) blank) }
     ensures { decode words.new ≡ put_in at e (decode words.old) }
 {
     for k in 0..COLUMNS {
@@ -99,8 +99,7 @@ pub fn insert(words: &mut [u64], live: usize, at: usize, e: Entry)
 }
 
 // `kept_rows`: the records whose mark is 0.
-pub fn keep(words: &mut [u64], marks: &[u64])
-    requires { (length words.old ≡ 4096) × (length marks.now ≡ 256) }
+pub fn keep(words: &mut Words, marks: &PerPlace)
     ensures { decode words.new ≡ kept_rows marks.now (decode words.old) }
 {
     for k in 0..COLUMNS {
@@ -111,8 +110,7 @@ pub fn keep(words: &mut [u64], marks: &[u64])
 }
 
 // `kept_rows` where every mark is set: no record stays.
-pub fn clear(words: &mut [u64])
-    requires { length words.old ≡ 4096 }
+pub fn clear(words: &mut Words)
     ensures { decode words.new ≡ kept_rows all_marked (decode words.old) }
 {
     for k in 0..COLUMNS {
@@ -125,8 +123,8 @@ pub fn clear(words: &mut [u64])
 // ---- the place of a hash
 
 // Whether the record at i comes before a hash.
-fn comes_before(words: &[u64], i: usize, h: Hash) -> bool
-    requires { (length words.now ≡ 4096) × (i < 256) }
+fn comes_before(words: &Words, i: usize, h: Hash) -> bool
+    requires { i < 256 }
     ensures { result ≡ less (entry_at (drop i words.now)).hash h }
 {
     let g = hash_of(words, i);
@@ -135,8 +133,8 @@ fn comes_before(words: &[u64], i: usize, h: Hash) -> bool
 
 // By halving: at most nine looks where a scan would take 128 on the mean; and what it promises, `Parts`, needs no order among the records.
 // By hand: the library's searches go over one slice, where a hash is in four, and promise `Parts` only of one in order.
-fn parting(words: &[u64], count: usize, h: Hash) -> usize
-    requires { (length words.now ≡ 4096) × (count ≤ 256) }
+fn parting(words: &Words, count: usize, h: Hash) -> usize
+    requires { count ≤ 256 }
     ensures { Parts h (take count (decode words.now).entries) result }
 {
     let mut lo = 0;
@@ -154,8 +152,8 @@ fn parting(words: &[u64], count: usize, h: Hash) -> usize
 
 // `Finds`: the place of a hash, or else the one where it would go, as the library's searches answer. On rising records `Ok` is `found` and `remove`,
 // `Err` is `insert`.
-pub fn find(words: &[u64], count: usize, h: Hash) -> Result<usize, usize>
-    requires { (length words.now ≡ 4096) × (count ≤ 256) }
+pub fn find(words: &Words, count: usize, h: Hash) -> Result<usize, usize>
+    requires { count ≤ 256 }
     ensures { Finds h (take count (decode words.now).entries) result }
 {
     let at = parting(words, count, h);
@@ -171,8 +169,8 @@ pub fn find(words: &[u64], count: usize, h: Hash) -> Result<usize, usize>
 // ---- scans
 
 // `pending_count_for`
-pub fn pending_count_for(words: &[u64], count: usize, owner: u64) -> u64
-    requires { (length words.now ≡ 4096) × (count ≤ 256) }
+pub fn pending_count_for(words: &Words, count: usize, owner: u64) -> u64
+    requires { count ≤ 256 }
     ensures { result ≡ pending_count_for owner (take count (decode words.now).entries) }
 {
     let mut n = 0;
@@ -184,27 +182,19 @@ pub fn pending_count_for(words: &[u64], count: usize, owner: u64) -> u64
     n
 }
 
-fn lower_time(t: u64, low: u64) -> u64
-    ensures { result ≡ lesser t low }
-{
-    if t <= low {
-        return t;
-    }
-    low
-}
-
 // The least time of the owner so far, after a record of the seat o and the time t. By choices and no branch, since owners come in any order.
+#[tactic(auto, using(laws::specs::Numbers::min_is))]
 fn low_after(o: u64, owner: u64, t: u64, low: u64) -> u64
     ensures { result ≡ cond (eqb o owner) (lesser t low) low }
 {
-    let m = lower_time(t, low);
+    let m = t.min(low);
     if o == owner { m } else { low }
 }
 
 fn any_after(o: u64, owner: u64, any: bool) -> bool
     ensures { result ≡ cond (eqb o owner) true any }
 {
-    if o == owner { true } else { any }
+    any | (o == owner)
 }
 
 fn oldest_by(any: bool, low: u64) -> Option<u64>
@@ -216,8 +206,8 @@ fn oldest_by(any: bool, low: u64) -> Option<u64>
 // `oldest`, no lower than a floor that is as it is stored: below it the scan ends, since how much older a record is does not matter. The loop holds
 // plain numbers, and the answer is made after it: an enum in the loop would go through memory at every turn. A time may be any number, so whether
 // there is one is a flag of its own. From the last record to the first, as `oldest` goes.
-pub fn oldest_from(words: &[u64], count: usize, owner: u64, floor: u64) -> Option<u64>
-    requires { (length words.now ≡ 4096) × (count ≤ 256) }
+pub fn oldest_from(words: &Words, count: usize, owner: u64, floor: u64) -> Option<u64>
+    requires { count ≤ 256 }
     ensures { stored result ≡ floored floor (oldest owner (take count (decode words.now).entries)) }
 {
     let mut any = false;
@@ -236,8 +226,8 @@ pub fn oldest_from(words: &[u64], count: usize, owner: u64, floor: u64) -> Optio
 }
 
 // The place of the lowest record, the first among equals; `count` where there is none. From the last record to the first, as `lowest` goes.
-fn lowest_place(words: &[u64], count: usize) -> usize
-    requires { (length words.now ≡ 4096) × (count ≤ 256) }
+fn lowest_place(words: &Words, count: usize) -> usize
+    requires { count ≤ 256 }
     ensures { lowest (take count (decode words.now).entries) ≡ front_at count result (decode words.now).entries }
 {
     let mut best = count;
@@ -253,21 +243,18 @@ fn lowest_place(words: &[u64], count: usize) -> usize
 }
 
 // `lowest`
-pub fn lowest(words: &[u64], count: usize) -> Option<Entry>
-    requires { (length words.now ≡ 4096) × (count ≤ 256) }
+#[tactic(auto, unfolding(crate::specs::Places::front_at))]
+pub fn lowest(words: &Words, count: usize) -> Option<Entry>
+    requires { count ≤ 256 }
     ensures { result ≡ lowest (take count (decode words.now).entries) }
 {
     let at = lowest_place(words, count);
-    if at < count {
-        let e = entry_of(words, at);
-        return Some(e);
-    }
-    None
+    (at < count).then(|| entry_of(words, at))
 }
 
 // `at_height`
-pub fn at_height(words: &[u64], count: usize, height: u64) -> Option<Entry>
-    requires { (length words.now ≡ 4096) × (count ≤ 256) }
+pub fn at_height(words: &Words, count: usize, height: u64) -> Option<Entry>
+    requires { count ≤ 256 }
     ensures { result ≡ at_height height (take count (decode words.now).entries) }
 {
     let heights = &words[at::HEIGHTS..at::HEIGHTS + count];
@@ -278,8 +265,8 @@ pub fn at_height(words: &[u64], count: usize, height: u64) -> Option<Entry>
 }
 
 // `was_front`
-pub fn was_front(words: &[u64], count: usize, height: u64) -> bool
-    requires { (length words.now ≡ 4096) × (count ≤ 256) }
+pub fn was_front(words: &Words, count: usize, height: u64) -> bool
+    requires { count ≤ 256 }
     ensures { result ≡ was_front height (take count (decode words.now).entries) }
 {
     words[at::HEIGHTS..at::HEIGHTS + count]

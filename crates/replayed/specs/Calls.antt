@@ -1,5 +1,5 @@
--- Which call a recorded number stands for, with its arguments (the numbers and the order of crates/kofudile/API.md), and the row that its answer makes. Definitions only.
-use Rattle.std.specs.Prelude.{◌≡◌, Bool, cond, ◌&&◌, ◌||◌, List, [], ◌∷◌, ℕ, eqb, leb, take}
+-- The call that a record stands for, with its arguments (in the order of crates/kofudile/API.md), and the row that its answer makes. Definitions only.
+use Rattle.std.specs.Prelude.{◌≡◌, List, ℕ}
 use Rattle.std.specs.Bool.{then_some}
 use Rattle.model.specs.Queries.{Query, reads, preferred_peer, probe_plan, probe_start, front_interval_ewma_ms, asks_owner, asks_queue_start, asks_compute_capacity, asks_probe_offered, pending_len, pending_bytes, asks_expired_capacity, stall_timeout, max_pending_blocks, min_peers_for_fanout, fanout_active, pending_high_water, stalling_peer, peer_inflight, active_peers, decay_floor, request_cursor, ewma_block_bytes, asks_request_capacity, asks_contains, asks_count_for, asks_downloading, owner_timeout, asks_hedge_offered, asks_has_expired, asks_cooldown}
 use Rattle.model.specs.Refusals.{Change, Call, opens, changes, queries, requests, fetches, receives, credits, credits_duplicate, rejects, expires, requeues, releases, retires, retains, marks_unresponsive, confirms_probe, confirms_hedge, observes, sets_fanout, clears_preferred}
@@ -9,12 +9,32 @@ use Rattle.observation.specs.Look.{look}
 use Rattle.letting_go.specs.Letting.{places}
 use Rattle.report_words.specs.Report.{releases_of}
 use Rattle.lend.specs.Blank.{none_filled}
-use Rattle.recorded.specs.Stream.{on, low, row_at, is_set}
-use Rattle.recorded.specs.Args.{args_at, opening_at, asked_at, confirmed_at}
-use Rattle.recorded.specs.Said.{row, number_row, pair_row, perhaps_row, perhaps_pair_row, gone_row, received_row, rejected_row, plan_row, blocked_row}
-use Rattle.recorded.specs.declared.Args.{Args}
+use Rattle.model.specs.declared.Hash.{Hash}
+use Rattle.recorded.specs.Stream.{on, nth, low, is_set, hash_from, perhaps, perhaps_height}
+use Rattle.recorded.specs.Args.{opening_at, words_at, behind_words, flags_at}
+use Rattle.recorded.specs.Said.{done_row, number_row, pair_row, perhaps_row, perhaps_pair_row, gone_row, received_row, rejected_row, plan_row, blocked_row}
 use Rattle.recorded.specs.declared.Said.{Said}
-use Rattle.lend.specs.Cases.{pick}
+use Rattle.replayed.specs.Kinds.{kind_of}
+use Rattle.replayed.specs.declared.kinds.Kind.{Kind}
+use Rattle.replayed.specs.declared.kinds.Doing.{Doing}
+use Rattle.replayed.specs.declared.kinds.Letting.{Letting}
+use Rattle.replayed.specs.declared.kinds.Asked.{Asked}
+use Rattle.replayed.specs.declared.kinds.AsksNumber.{AsksNumber}
+use Rattle.replayed.specs.declared.kinds.AsksTruth.{AsksTruth}
+use Rattle.replayed.specs.declared.kinds.AsksPair.{AsksPair}
+use Rattle.replayed.specs.declared.kinds.AsksPerhapsPair.{AsksPerhapsPair}
+use Rattle.replayed.specs.declared.kinds.AsksPerhaps.{AsksPerhaps}
+use Rattle.replayed.specs.declared.kinds.PlanPart.{PlanPart}
+use Rattle.replayed.specs.declared.kinds.Kind.TheVariants.{Done, Request, Fetch, Receive, Reject, LetGo, Look, Ask}
+use Rattle.replayed.specs.declared.kinds.Doing.TheVariants.{Open, CreditDuplicateDelivery, MarkPeerUnresponsive, ConfirmPrefixProbe, ConfirmColdFrontHedge, SetFanoutEligiblePeers, ClearPreferredPeer}
+use Rattle.replayed.specs.declared.kinds.Letting.TheVariants.{CreditDeliveryFrom, ExpirePending, RequeueForRetry, ReleasePending, RetireBefore, RetainOwnedBy}
+use Rattle.replayed.specs.declared.kinds.Asked.TheVariants.{Number, Truth, Pair, PerhapsPair, Perhaps, Plan}
+use Rattle.replayed.specs.declared.kinds.AsksNumber.TheVariants.{PendingLen, PendingBytes, EffectivePeerInflight, ActiveDownloadingPeers, StallDecayFloor, RequestCursor, EwmaBlockBytes, EffectiveOwnerTimeout, StallTimeout, MaxPendingBlocks, MinPeersForFanout, PendingCountFor}
+use Rattle.replayed.specs.declared.kinds.AsksTruth.TheVariants.{FanoutActive, HasRequestCapacity, IsDownloading, ContainsPending, HedgeOffered, ProbeOffered, PeerHasExpiredPending, PeerInStallerCooldown}
+use Rattle.replayed.specs.declared.kinds.AsksPair.TheVariants.{PendingHighWater, ExpiredPendingCapacity}
+use Rattle.replayed.specs.declared.kinds.AsksPerhapsPair.TheVariants.{StallingPeer, ComputeRequestCapacity}
+use Rattle.replayed.specs.declared.kinds.AsksPerhaps.TheVariants.{PreferredPeer, PendingOwner, OwnerQueueStart, FrontIntervalEwmaMs, ActivePrefixProbeStartedAt}
+use Rattle.replayed.specs.declared.kinds.PlanPart.TheVariants.{Numbers, Hashes}
 
 -- a call, and which row of words an answer of it is
 pub record Recorded : Type 0 where
@@ -22,7 +42,7 @@ pub record Recorded : Type 0 where
   pub row_of : Answer → List ℕ
 
 abbrev pub says_done : Call → Recorded
-says_done c = record { call = c; row_of = λ a. row (done_flat a) 0 0 0 0 }
+says_done c = record { call = c; row_of = λ a. done_row (done_flat a) }
 
 abbrev pub says_number : Call → Recorded
 says_number c = record { call = c; row_of = λ a. number_row (number_flat a) }
@@ -52,157 +72,136 @@ asks_perhaps q = record { query = q; row_of = λ a. perhaps_row (perhaps_flat a)
 
 -- ---- the queries
 
-abbrev pub numbers_asked : List (ℕ × Query)
-numbers_asked =
-    (19, reads pending_len)
-    ∷ (20, reads pending_bytes)
-    ∷ (21, reads peer_inflight)
-    ∷ (22, reads active_peers)
-    ∷ (23, reads decay_floor)
-    ∷ (24, reads request_cursor)
-    ∷ (25, reads ewma_block_bytes)
-    ∷ (26, reads owner_timeout)
-    ∷ (27, reads stall_timeout)
-    ∷ (28, reads max_pending_blocks)
-    ∷ (29, reads min_peers_for_fanout)
-    ∷ []
+module _ (ns : List ℕ) (place : ℕ) where
+  -- the k-th argument, and the hash that begins with it
+  abbrev pub arg : ℕ → ℕ
+  arg k = nth ns place k
 
-abbrev pub number_query : Args → ℕ → Query
-number_query x = pick numbers_asked (asks_count_for x.a)
+  abbrev pub hash_arg : ℕ → Hash
+  hash_arg k = hash_from ns (on place k)
 
-abbrev pub truths_asked : Args → List (ℕ × Query)
-truths_asked x =
-    (30, reads fanout_active)
-    ∷ (31, asks_request_capacity x.a x.b)
-    ∷ (33, asks_downloading x.a)
-    ∷ (34, asks_contains x.hash0)
-    ∷ (35, asks_hedge_offered x.a x.hash1)
-    ∷ (36, asks_probe_offered x.a x.hash1)
-    ∷ (37, asks_has_expired x.a x.b)
-    ∷ []
+  abbrev pub number_query : AsksNumber → Query
+  number_query PendingLen = reads pending_len
+  number_query PendingBytes = reads pending_bytes
+  number_query EffectivePeerInflight = reads peer_inflight
+  number_query ActiveDownloadingPeers = reads active_peers
+  number_query StallDecayFloor = reads decay_floor
+  number_query RequestCursor = reads request_cursor
+  number_query EwmaBlockBytes = reads ewma_block_bytes
+  number_query EffectiveOwnerTimeout = reads owner_timeout
+  number_query StallTimeout = reads stall_timeout
+  number_query MaxPendingBlocks = reads max_pending_blocks
+  number_query MinPeersForFanout = reads min_peers_for_fanout
+  number_query PendingCountFor = asks_count_for (arg 0)
 
-abbrev pub truth_query : Args → ℕ → Query
-truth_query x = pick (truths_asked x) (asks_cooldown x.a x.b)
+  abbrev pub truth_query : AsksTruth → Query
+  truth_query FanoutActive = reads fanout_active
+  truth_query HasRequestCapacity = asks_request_capacity (arg 0) (arg 1)
+  truth_query IsDownloading = asks_downloading (arg 0)
+  truth_query ContainsPending = asks_contains (hash_arg 0)
+  truth_query HedgeOffered = asks_hedge_offered (arg 0) (hash_arg 1)
+  truth_query ProbeOffered = asks_probe_offered (arg 0) (hash_arg 1)
+  truth_query PeerHasExpiredPending = asks_has_expired (arg 0) (arg 1)
+  truth_query PeerInStallerCooldown = asks_cooldown (arg 0) (arg 1)
 
-abbrev pub pairs_asked : List (ℕ × Query)
-pairs_asked = (39, reads pending_high_water) ∷ []
+  abbrev pub pair_query : AsksPair → Query
+  pair_query PendingHighWater = reads pending_high_water
+  pair_query ExpiredPendingCapacity = asks_expired_capacity (arg 0)
 
-abbrev pub pair_query : Args → ℕ → Query
-pair_query x = pick pairs_asked (asks_expired_capacity x.a)
+  abbrev pub perhaps_pair_query : AsksPerhapsPair → Query
+  perhaps_pair_query StallingPeer = reads stalling_peer
+  perhaps_pair_query ComputeRequestCapacity = asks_compute_capacity (arg 0) (arg 1) (arg 2)
 
-abbrev pub perhaps_pairs_asked : List (ℕ × Query)
-perhaps_pairs_asked = (41, reads stalling_peer) ∷ []
+  abbrev pub perhaps_query : AsksPerhaps → Query
+  perhaps_query PreferredPeer = reads preferred_peer
+  perhaps_query PendingOwner = asks_owner (hash_arg 0)
+  perhaps_query OwnerQueueStart = asks_queue_start (arg 0)
+  perhaps_query FrontIntervalEwmaMs = reads front_interval_ewma_ms
+  perhaps_query ActivePrefixProbeStartedAt = reads probe_start
 
-abbrev pub perhaps_pair_query : Args → ℕ → Query
-perhaps_pair_query x = pick perhaps_pairs_asked (asks_compute_capacity x.a x.b x.c)
+-- the plan's numbers, or the words of its hashes
+abbrev pub plan_part : PlanPart → Answer → List ℕ
+plan_part Numbers a = plan_row (plan_flat a)
+plan_part Hashes a = (plan_flat a).hashes
 
-abbrev pub perhaps_asked : Args → List (ℕ × Query)
-perhaps_asked x =
-    (43, reads preferred_peer)
-    ∷ (44, asks_owner x.hash0)
-    ∷ (45, asks_queue_start x.a)
-    ∷ (46, reads front_interval_ewma_ms)
-    ∷ []
+abbrev pub question : List ℕ → ℕ → Asked → Question
+question ns place (Number k) = asks_number (number_query ns place k)
+question ns place (Truth k) = asks_number (truth_query ns place k)
+question ns place (Pair k) = asks_pair (pair_query ns place k)
+question ns place (PerhapsPair k) = asks_perhaps_pair (perhaps_pair_query ns place k)
+question ns place (Perhaps k) = asks_perhaps (perhaps_query ns place k)
+question ns place (Plan k) = record { query = reads probe_plan; row_of = plan_part k }
 
-abbrev pub perhaps_query : Args → ℕ → Query
-perhaps_query x = pick (perhaps_asked x) (reads probe_start)
-
--- 48 asks for the plan's numbers, 49 for the words of its hashes
-abbrev pub plan_part : ℕ → Answer → List ℕ
-plan_part kind a = cond (eqb kind 48) (plan_row (plan_flat a)) (plan_flat a).hashes
-
-unfoldable pub query_at : Args → ℕ → Question
-query_at x kind =
-    cond (leb kind 29 || eqb kind 32) (asks_number (number_query x kind))
-    (cond (leb kind 38) (asks_number (truth_query x kind))
-    (cond (leb kind 40) (asks_pair (pair_query x kind))
-    (cond (leb kind 42) (asks_perhaps_pair (perhaps_pair_query x kind))
-    (cond (leb kind 47) (asks_perhaps (perhaps_query x kind))
-    (record { query = reads probe_plan; row_of = plan_part kind })))))
-
--- ---- the calls that are done or refused
+-- ---- the calls
 
 abbrev pub opening : List ℕ → ℕ → Call
 opening ns place = let o = opening_at ns place in opens o.clock o.settings o.keys
 
-abbrev pub confirming : List ℕ → ℕ → Args → Change
-confirming ns place x = let l = confirmed_at ns place in confirms_probe x.b x.a (take l.n l.given) (take l.m l.others)
+module _ (ns : List ℕ) (place : ℕ) where
+  abbrev pub confirming : Change
+  confirming = confirms_probe (arg ns place 1) (arg ns place 0) (words_at 2 ns place) (behind_words (λ n. n) 2 ns place)
 
-abbrev pub calls_done : List ℕ → ℕ → Args → List (ℕ × Call)
-calls_done ns place x =
-    (1, opening ns place)
-    ∷ (6, changes (credits_duplicate x.hash0 x.e))
-    ∷ (13, changes (marks_unresponsive x.b x.a))
-    ∷ (14, changes (confirming ns place x))
-    ∷ (15, changes (confirms_hedge x.a x.b x.hash2))
-    ∷ (17, changes (sets_fanout x.b x.a))
-    ∷ []
+  -- those that are done or refused
+  abbrev pub doing : Doing → Call
+  doing Open = opening ns place
+  doing CreditDuplicateDelivery = changes (credits_duplicate (hash_arg ns place 0) (arg ns place 4))
+  doing MarkPeerUnresponsive = changes (marks_unresponsive (arg ns place 1) (arg ns place 0))
+  doing ConfirmPrefixProbe = changes confirming
+  doing ConfirmColdFrontHedge = changes (confirms_hedge (arg ns place 0) (arg ns place 1) (hash_arg ns place 2))
+  doing SetFanoutEligiblePeers = changes (sets_fanout (arg ns place 1) (arg ns place 0))
+  doing ClearPreferredPeer = changes clears_preferred
 
-abbrev pub done_at : List ℕ → ℕ → Args → ℕ → Call
-done_at ns place x = pick (calls_done ns place x) (changes clears_preferred)
+  abbrev pub requesting : Change
+  requesting =
+      requests (arg ns place 4) (arg ns place 0) (words_at 5 ns place) (behind_words low 5 ns place) (low (arg ns place 1)) (arg ns place 2) (arg ns place 3)
 
--- ---- all that let nothing go
+  abbrev pub fetching : Change
+  fetching = fetches (arg ns place 9) (arg ns place 0) (hash_arg ns place 1) (low (arg ns place 5)) (is_set (arg ns place 6)) (arg ns place 7) (arg ns place 8)
 
-abbrev pub requesting : List ℕ → ℕ → Args → Change
-requesting ns place x =
-    let l = asked_at ns place in
-    requests x.e x.a (take l.n l.hashes) (take l.m l.heights) (low x.b) x.c x.d
+  abbrev pub looking : Change
+  looking =
+      observes (arg ns place 11)
+      (look (perhaps_height ns place 0) (then_some (is_set (arg ns place 2)) (hash_arg ns place 3)) (is_set (arg ns place 7)) (arg ns place 8) (perhaps_height ns place 9))
 
-abbrev pub fetching : Args → Change
-fetching x = fetches x.j x.a x.hash1 (low x.f) (is_set x.g) x.h x.i
+  abbrev pub receiving : Change
+  receiving = receives (arg ns place 7) (hash_arg ns place 0) (arg ns place 4) (perhaps ns place 5)
 
-abbrev pub looking : Args → Change
-looking x =
-    observes x.l
-    (look (then_some (is_set x.a) (low x.b)) (then_some (is_set x.c) x.hash3) (is_set x.h) x.i (then_some (is_set x.j) (low x.k)))
+  abbrev pub rejecting : Change
+  rejecting = rejects (arg ns place 6) (hash_arg ns place 0) (perhaps ns place 4)
 
-abbrev pub calls_told : List ℕ → ℕ → Args → List (ℕ × Recorded)
-calls_told ns place x =
-    (2, says_number (changes (requesting ns place x)))
-    ∷ (3, says_number (changes (fetching x)))
-    ∷ (16, record { call = changes (looking x); row_of = λ a. blocked_row (blocked_flat a) })
-    ∷ []
-
-unfoldable pub quiet_at : List ℕ → ℕ → Args → ℕ → Recorded
-quiet_at ns place x kind = cond (leb 19 kind) (says_asked (query_at x kind)) (pick (calls_told ns place x) (says_done (done_at ns place x kind)) kind)
-
--- ---- the calls that let go
-
-abbrev pub calls_letting_go : Args → List (ℕ × Change)
-calls_letting_go x =
-    (5, credits x.h x.hash0 x.e (then_some (is_set x.f) (low x.g)))
-    ∷ (8, expires x.a)
-    ∷ (9, requeues x.g x.hash0 (then_some (is_set x.e) (low x.f)))
-    ∷ (10, releases x.e x.hash0)
-    ∷ (11, retires x.b (low x.a))
-    ∷ []
-
-abbrev pub letting_go : List ℕ → ℕ → Args → ℕ → Change
-letting_go ns place x = pick (calls_letting_go x) (retains (row_at 256 ns (on place 1)))
-
-abbrev pub receiving : Args → Change
-receiving x = receives x.h x.hash0 x.e (then_some (is_set x.f) x.g)
-
-abbrev pub rejecting : Args → Change
-rejecting x = rejects x.g x.hash0 (then_some (is_set x.e) x.f)
-
--- the others that let go
-abbrev pub lets_go : ℕ → Bool
-lets_go kind = eqb kind 5 || (leb 8 kind && leb kind 12)
+  -- those that answer only how much they let go
+  abbrev pub letting : Letting → Change
+  letting CreditDeliveryFrom = credits (arg ns place 7) (hash_arg ns place 0) (arg ns place 4) (perhaps_height ns place 5)
+  letting ExpirePending = expires (arg ns place 0)
+  letting RequeueForRetry = requeues (arg ns place 6) (hash_arg ns place 0) (perhaps_height ns place 4)
+  letting ReleasePending = releases (arg ns place 4) (hash_arg ns place 0)
+  letting RetireBefore = retires (arg ns place 1) (low (arg ns place 0))
+  letting RetainOwnedBy = retains (flags_at ns place)
 
 -- ---- every call
 
-abbrev pub says_received : Args → Recorded
-says_received x = record { call = changes (receiving x); row_of = λ a. received_row (received_flat a) }
+abbrev pub says_received : Change → Recorded
+says_received x = record { call = changes x; row_of = λ a. received_row (received_flat a) }
 
-abbrev pub says_rejected : Args → Recorded
-says_rejected x = record { call = changes (rejecting x); row_of = λ a. rejected_row (rejected_flat a) }
+abbrev pub says_rejected : Change → Recorded
+says_rejected x = record { call = changes x; row_of = λ a. rejected_row (rejected_flat a) }
 
-unfoldable pub call_at : List ℕ → ℕ → ℕ → Recorded
-call_at ns place kind =
-    let x = args_at ns place in
-    cond (eqb kind 4) (says_received x)
-    (cond (eqb kind 7) (says_rejected x) (cond (lets_go kind) (says_gone (letting_go ns place x kind)) (quiet_at ns place x kind)))
+abbrev pub says_blocked : Change → Recorded
+says_blocked x = record { call = changes x; row_of = λ a. blocked_row (blocked_flat a) }
+
+abbrev pub told : List ℕ → ℕ → Kind → Recorded
+told ns place (Done k) = says_done (doing ns place k)
+told ns place Request = says_number (changes (requesting ns place))
+told ns place Fetch = says_number (changes (fetching ns place))
+told ns place Receive = says_received (receiving ns place)
+told ns place Reject = says_rejected (rejecting ns place)
+told ns place (LetGo k) = says_gone (letting ns place k)
+told ns place Look = says_blocked (looking ns place)
+told ns place (Ask k) = says_asked (question ns place k)
+
+-- by its number
+abbrev pub call_at : List ℕ → ℕ → ℕ → Recorded
+call_at ns place number = told ns place (kind_of number)
 
 -- THE PROMISE: a call is made with a report of 256 places, none of them filled, and all that it says, reports and leaves is what `perform` has
 abbrev pub Performs : Recorded → List ℕ → List ℕ → Said → Type 0

@@ -1,204 +1,173 @@
-// The calls by their numbers in crates/kofudile/API.md.
-ghost use Rattle.std.specs.Prelude.{◌≡◌, []};
+// The calls, each with its arguments in the order of crates/kofudile/API.md.
+ghost use Rattle.std.specs.Prelude.{◌≡◌};
 ghost use Rattle.model.specs.Refusals.{changes};
-ghost use Rattle.model.specs.Perform.{perform};
-ghost use Rattle.model.specs.Says.{accepted_says, requested_says, blocked_says, let_go_says};
-ghost use Rattle.lend.specs.Goes.{Goes};
+ghost use Rattle.model.specs.Says.{accepted_says, requested_says, fetch_says, blocked_says, let_go_says};
+ghost use Rattle.lend.specs.Goes.{Goes, Leaves};
 ghost use Rattle.recorded.specs.Said.{alone};
-ghost use Rattle.replayed.specs.Calls.{confirming, requesting, looking, done_at, quiet_at, letting_go, lets_go, says_received, says_rejected, says_gone, call_at, Performs};
+ghost use Rattle.replayed.specs.Calls.{confirming, requesting, fetching, looking, receiving, rejecting, opening, doing, letting, told, says_received, says_rejected, says_gone, call_at, Performs};
 
 use crate::asks::query;
+use crate::kinds::{Doing, Kind, Letting};
 use lend::Reported;
-use model::{Blocked, Refusal};
-use recorded::arguments::{args_at, asked_at, confirmed_at, flags_at, height_of, opening_at};
-use recorded::stream::low;
-use recorded::{Args, Said, answers};
+use model::{Blocked, Fetch, Refusal};
+use recorded::arguments::{flags_at, lists_at, opening_at};
+use recorded::stream::Place;
+use recorded::{Said, answers};
 
-fn request(words: &mut [u64], numbers: &[u64], at: u64, a: Args) -> Result<bool, Refusal>
-    ensures { (requested_says result ≡ (perform (changes (requesting numbers.now at a)) words.old []).answer)
-        × (words.new ≡ (perform (changes (requesting numbers.now at a)) words.old []).words) }
+fn request(words: &mut [u64], a: Place) -> Result<bool, Refusal>
+    ensures { Leaves (changes (requesting a.entry.numbers.now a.entry.at)) words.old (requested_says result) words.new }
 {
-    let l = asked_at(numbers, at);
-    let n = l.n;
-    let m = l.m;
-    let hashes = l.hashes;
-    let heights = l.heights;
+    let (hashes, heights) = lists_at::<u32>(a, 5);
     window::mark_requested(
         words,
-        a.a,
-        &hashes[..n],
-        &heights[..m],
-        low(a.b),
-        a.c,
-        a.d,
-        a.e,
+        a.nth(0),
+        hashes.as_slice(),
+        heights.as_slice(),
+        a.height(1),
+        a.nth(2),
+        a.nth(3),
+        a.nth(4),
     )
 }
 
-fn confirm(words: &mut [u64], numbers: &[u64], at: u64, a: Args) -> Result<(), Refusal>
-    ensures { (accepted_says result ≡ (perform (changes (confirming numbers.now at a)) words.old []).answer)
-        × (words.new ≡ (perform (changes (confirming numbers.now at a)) words.old []).words) }
+fn owned_fetch(words: &mut [u64], a: Place) -> Result<Fetch, Refusal>
+    ensures { Leaves (changes (fetching a.entry.numbers.now a.entry.at)) words.old (fetch_says result) words.new }
 {
-    let l = confirmed_at(numbers, at);
-    let n = l.n;
-    let m = l.m;
-    let given = l.given;
-    let others = l.others;
-    window::confirm_prefix_probe(words, a.a, &given[..n], &others[..m], a.b)
+    window::mark_owned_fetch(
+        words,
+        a.nth(0),
+        a.hash(1),
+        a.height(5),
+        a.is_set(6),
+        a.nth(7),
+        a.nth(8),
+        a.nth(9),
+    )
 }
 
-fn lets_go(
-    words: &mut [u64],
-    numbers: &[u64],
-    kind: u64,
-    at: u64,
-    a: Args,
-) -> Reported<Result<u64, Refusal>>
-    ensures { Goes (changes (letting_go numbers.now at a kind)) words.old words.new (let_go_says result.answer) result.places result.gone }
+fn confirm(words: &mut [u64], a: Place) -> Result<(), Refusal>
+    ensures { Leaves (changes (confirming a.entry.numbers.now a.entry.at)) words.old (accepted_says result) words.new }
 {
-    let h = a.hash0;
-    match kind {
-        5 => {
-            let t = height_of(a.f, a.g);
-            lend::credit_delivery_from(words, h, a.e, t, a.h)
-        }
-        8 => lend::expire_pending(words, a.a),
-        9 => {
-            let t = height_of(a.e, a.f);
-            lend::requeue_for_retry(words, h, t, a.g)
-        }
-        10 => lend::release_pending(words, h, a.e),
-        11 => lend::retire_before(words, low(a.a), a.b),
-        _ => {
-            let flags = flags_at(numbers, at);
-            lend::retain_owned_by(words, &flags)
-        }
-    }
+    let (given, others) = lists_at::<u64>(a, 2);
+    window::confirm_prefix_probe(
+        words,
+        a.nth(0),
+        given.as_slice(),
+        others.as_slice(),
+        a.nth(1),
+    )
 }
 
-fn receives(words: &mut [u64], a: Args) -> Said
-    ensures { Performs (says_received a) words.old words.new result }
+fn looks(words: &mut [u64], a: Place) -> Result<Blocked, Refusal>
+    ensures { Leaves (changes (looking a.entry.numbers.now a.entry.at)) words.old (blocked_says result) words.new }
 {
-    let h = a.hash0;
-    let s = (a.f != 0).then_some(a.g);
-    let l = lend::mark_received_from(words, h, a.e, s, a.h);
-    let r = l.answer;
-    let gone = l.gone;
-    Said {
-        fields: answers::received(r),
-        places: l.places,
-        gone,
-    }
+    let frontier = a.is_set(2).then_some(a.hash(3));
+    window::observe_blocked(
+        words,
+        a.perhaps_height(0),
+        frontier,
+        a.is_set(7),
+        a.nth(8),
+        a.perhaps_height(9),
+        a.nth(11),
+    )
 }
 
-fn rejects(words: &mut [u64], a: Args) -> Said
-    ensures { Performs (says_rejected a) words.old words.new result }
+fn opens(words: &mut [u64], a: Place) -> Result<(), Refusal>
+    ensures { Leaves (opening a.entry.numbers.now a.entry.at) words.old (accepted_says result) words.new }
 {
-    let h = a.hash0;
-    let s = (a.e != 0).then_some(a.f);
-    let l = lend::reject_delivery(words, h, s, a.g);
-    let r = l.answer;
-    let gone = l.gone;
-    Said {
-        fields: answers::rejected(r),
-        places: l.places,
-        gone,
-    }
-}
-
-fn releases(words: &mut [u64], numbers: &[u64], kind: u64, at: u64, a: Args) -> Said
-    ensures { Performs (says_gone (letting_go numbers.now at a kind)) words.old words.new result }
-{
-    let l = lets_go(words, numbers, kind, at, a);
-    let r = l.answer;
-    let gone = l.gone;
-    Said {
-        fields: answers::gone(r),
-        places: l.places,
-        gone,
-    }
-}
-
-fn looks(words: &mut [u64], a: Args) -> Result<Blocked, Refusal>
-    ensures { (blocked_says result ≡ (perform (changes (looking a)) words.old []).answer)
-        × (words.new ≡ (perform (changes (looking a)) words.old []).words) }
-{
-    let h = a.hash3;
-    let next = height_of(a.a, a.b);
-    let frontier = (a.c != 0).then_some(h);
-    let highest = height_of(a.j, a.k);
-    window::observe_blocked(words, next, frontier, a.h != 0, a.i, highest, a.l)
+    let o = opening_at(a);
+    window::open(words, o.settings, &o.keys, o.clock)
 }
 
 // The calls that are done or refused.
-fn accepted(words: &mut [u64], numbers: &[u64], kind: u64, at: u64, a: Args) -> Result<(), Refusal>
-    ensures { (accepted_says result ≡ (perform (done_at numbers.now at a kind) words.old []).answer)
-        × (words.new ≡ (perform (done_at numbers.now at a kind) words.old []).words) }
+fn accepted(words: &mut [u64], a: Place, kind: Doing) -> Result<(), Refusal>
+    ensures { Leaves (doing a.entry.numbers.now a.entry.at kind) words.old (accepted_says result) words.new }
 {
-    let h = a.hash0;
-    let g = a.hash2;
     match kind {
-        1 => {
-            let o = opening_at(numbers, at);
-            let settings = o.settings;
-            let keys = o.keys;
-            window::open(words, settings, &keys, o.clock)
+        Doing::Open => opens(words, a),
+        Doing::CreditDuplicateDelivery => {
+            window::credit_duplicate_delivery(words, a.hash(0), a.nth(4))
         }
-        6 => window::credit_duplicate_delivery(words, h, a.e),
-        13 => window::mark_peer_unresponsive(words, a.a, a.b),
-        14 => confirm(words, numbers, at, a),
-        15 => window::confirm_cold_front_hedge(words, a.a, a.b, g),
-        17 => window::set_fanout_eligible_peers(words, a.a, a.b),
-        _ => window::clear_preferred_peer(words),
+        Doing::MarkPeerUnresponsive => window::mark_peer_unresponsive(words, a.nth(0), a.nth(1)),
+        Doing::ConfirmPrefixProbe => confirm(words, a),
+        Doing::ConfirmColdFrontHedge => {
+            window::confirm_cold_front_hedge(words, a.nth(0), a.nth(1), a.hash(2))
+        }
+        Doing::SetFanoutEligiblePeers => {
+            window::set_fanout_eligible_peers(words, a.nth(0), a.nth(1))
+        }
+        Doing::ClearPreferredPeer => window::clear_preferred_peer(words),
     }
 }
 
-fn changes(words: &mut [u64], numbers: &[u64], kind: u64, at: u64, a: Args) -> [u64; 32]
-    ensures { Performs (quiet_at numbers.now at a kind) words.old words.new (alone result) }
+fn lets_go(words: &mut [u64], a: Place, kind: Letting) -> Reported<Result<u64, Refusal>>
+    ensures { Goes (changes (letting a.entry.numbers.now a.entry.at kind)) words.old words.new (let_go_says result.answer) result.places result.gone }
 {
-    if kind >= 19 {
-        return query(words, kind, a);
-    }
     match kind {
-        2 => answers::truth(request(words, numbers, at, a)),
-        3 => {
-            let h = a.hash1;
-            answers::fetch(window::mark_owned_fetch(
-                words,
-                a.a,
-                h,
-                low(a.f),
-                a.g != 0,
-                a.h,
-                a.i,
-                a.j,
-            ))
+        Letting::CreditDeliveryFrom => {
+            lend::credit_delivery_from(words, a.hash(0), a.nth(4), a.perhaps_height(5), a.nth(7))
         }
-        16 => answers::blocked(looks(words, a)),
-        _ => answers::done(accepted(words, numbers, kind, at, a)),
+        Letting::ExpirePending => lend::expire_pending(words, a.nth(0)),
+        Letting::RequeueForRetry => {
+            lend::requeue_for_retry(words, a.hash(0), a.perhaps_height(4), a.nth(6))
+        }
+        Letting::ReleasePending => lend::release_pending(words, a.hash(0), a.nth(4)),
+        Letting::RetireBefore => lend::retire_before(words, a.height(0), a.nth(1)),
+        Letting::RetainOwnedBy => lend::retain_owned_by(words, &flags_at(a)),
     }
 }
 
-// Of the calls that answer only how much they let go.
-fn is_release(kind: u64) -> bool
-    ensures { result ≡ lets_go kind }
+// An answer's row, beside its report.
+fn said<A: Copy>(fields: [u64; 32], l: Reported<A>) -> Said
+    ensures { (result.fields ≡ fields) × (result.places ≡ l.places) × (result.gone ≡ l.gone) }
 {
-    (kind == 5) | ((kind >= 8) & (kind <= 12))
+    Said {
+        fields,
+        places: l.places,
+        gone: l.gone,
+    }
 }
 
-// One recorded call, by its number and where its arguments begin.
-pub fn perform(words: &mut [u64], numbers: &[u64], kind: u64, at: u64) -> Said
-    ensures { Performs (call_at numbers.now at kind) words.old words.new result }
+fn receives(words: &mut [u64], a: Place) -> Said
+    ensures { Performs (says_received (receiving a.entry.numbers.now a.entry.at)) words.old words.new result }
 {
-    let a = args_at(numbers, at);
-    if kind == 4 {
-        return receives(words, a);
+    let l = lend::mark_received_from(words, a.hash(0), a.nth(4), a.perhaps(5), a.nth(7));
+    said(answers::received(l.answer), l)
+}
+
+fn rejects(words: &mut [u64], a: Place) -> Said
+    ensures { Performs (says_rejected (rejecting a.entry.numbers.now a.entry.at)) words.old words.new result }
+{
+    let l = lend::reject_delivery(words, a.hash(0), a.perhaps(4), a.nth(6));
+    said(answers::rejected(l.answer), l)
+}
+
+fn releases(words: &mut [u64], a: Place, kind: Letting) -> Said
+    ensures { Performs (says_gone (letting a.entry.numbers.now a.entry.at kind)) words.old words.new result }
+{
+    let l = lets_go(words, a, kind);
+    said(answers::gone(l.answer), l)
+}
+
+fn made(words: &mut [u64], a: Place, kind: Kind) -> Said
+    ensures { Performs (told a.entry.numbers.now a.entry.at kind) words.old words.new result }
+{
+    match kind {
+        Kind::Done(k) => answers::alone(answers::done(accepted(words, a, k))),
+        Kind::Request => answers::alone(answers::truth(request(words, a))),
+        Kind::Fetch => answers::alone(answers::fetch(owned_fetch(words, a))),
+        Kind::Receive => receives(words, a),
+        Kind::Reject => rejects(words, a),
+        Kind::LetGo(k) => releases(words, a, k),
+        Kind::Look => answers::alone(answers::blocked(looks(words, a))),
+        Kind::Ask(k) => answers::alone(query(words, a, k)),
     }
-    if kind == 7 {
-        return rejects(words, a);
-    }
-    if is_release(kind) {
-        return releases(words, numbers, kind, at, a);
-    }
-    answers::alone(changes(words, numbers, kind, at, a))
+}
+
+// One recorded call, by its number and its arguments.
+pub fn perform(words: &mut [u64], number: u64, a: Place) -> Said
+    ensures { Performs (call_at a.entry.numbers.now a.entry.at number) words.old words.new result }
+{
+    made(words, a, Kind::from(number))
 }

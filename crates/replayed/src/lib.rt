@@ -3,3 +3,4 @@
 
 pub mod acts;
 mod asks;
+mod kinds;

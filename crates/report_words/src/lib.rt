@@ -9,7 +9,7 @@ ghost use Rattle.model.specs.Layout.{decode};
 ghost use Rattle.laws.specs.Marks.{gone_by};
 ghost use Rattle.report_words.specs.Report.{nine, release_at, releases_of};
 
-use model::{Entry, Hash, of_release, sizes};
+use model::{Entry, Gone, Hash, PerPlace, Words, of_release, sizes};
 
 // A window's total and frontier.
 #[derive(Clone, Copy)]
@@ -40,8 +40,8 @@ pub fn put_release(gone: &mut [u64], n: usize, e: Entry, reason: u64)
 }
 
 // `gone_by`: the records whose mark is not 0, in order. Answers how many.
-pub fn gather(words: &[u64], count: usize, marks: &[u64], gone: &mut [u64]) -> usize
-    requires { (length words.now ≡ 4096) × ((count ≤ 256) × ((length marks.now ≡ 256) × (length gone.old ≡ 2304))) }
+pub fn gather(words: &Words, count: usize, marks: &PerPlace, gone: &mut Gone) -> usize
+    requires { count ≤ 256 }
     ensures { (result ≤ count) × (releases_of result gone.new ≡ gone_by marks.now (take count (decode words.now).entries)) }
 {
     let mut n = 0;
@@ -60,14 +60,14 @@ pub fn gather(words: &[u64], count: usize, marks: &[u64], gone: &mut [u64]) -> u
 fn less_one(t: Totals, estimate: u64, height: u64, reason: u64) -> Totals
     ensures { (result.total ≡ t.total - estimate) × (result.frontier ≡ lowered reason height t.frontier) }
 {
-    let total = numbers::minus(t.total, estimate);
+    let total = t.total.saturating_sub(estimate);
     let frontier = reasons::lowered(reason, height, t.frontier);
     Totals { total, frontier }
 }
 
 // `total_after` and `frontier_after` the first `n` releases.
-pub fn totals_after(gone: &[u64], n: usize, total: u64, frontier: u64) -> Totals
-    requires { (length gone.now ≡ 2304) × (n ≤ 256) }
+pub fn totals_after(gone: &Gone, n: usize, total: u64, frontier: u64) -> Totals
+    requires { n ≤ 256 }
     ensures { (result.total ≡ total_after (releases_of n gone.now) total) × (result.frontier ≡ frontier_after (releases_of n gone.now) frontier) }
 {
     let mut t = Totals { total, frontier };
@@ -84,8 +84,8 @@ pub fn totals_after(gone: &[u64], n: usize, total: u64, frontier: u64) -> Totals
 }
 
 // `is_entry`, of release i.
-fn is_entry(gone: &[u64], i: usize, owner: u64, h: Hash) -> bool
-    requires { (length gone.now ≡ 2304) × (i < 256) }
+fn is_entry(gone: &Gone, i: usize, owner: u64, h: Hash) -> bool
+    requires { i < 256 }
     ensures { result ≡ is_entry owner h (release_at gone.now i) }
 {
     let a = sizes::RELEASE_WORDS * i;
@@ -100,8 +100,8 @@ fn is_entry(gone: &[u64], i: usize, owner: u64, h: Hash) -> bool
 }
 
 // Whether an owner's entry of a hash is among the first `n` releases.
-pub fn is_among(gone: &[u64], n: usize, owner: u64, h: Hash) -> bool
-    requires { (length gone.now ≡ 2304) × (n ≤ 256) }
+pub fn is_among(gone: &Gone, n: usize, owner: u64, h: Hash) -> bool
+    requires { n ≤ 256 }
     ensures { result ≡ any (is_entry owner h) (releases_of n gone.now) }
 {
     (0..n).any(|i| is_entry(gone, i, owner, h))

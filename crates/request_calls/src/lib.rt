@@ -13,7 +13,7 @@ ghost use Rattle.laws.specs.Whole.{Whole, Holds};
 ghost use Rattle.request_calls.specs.Answer.{tried, request_answer, request_window};
 ghost use Rattle.request_calls.specs.Listed.{listed, none_pending};
 
-use model::{Hash, Refusal, sizes};
+use model::{Hash, Refusal, Words, sizes};
 
 // ---- its list
 
@@ -46,7 +46,7 @@ fn listed_once(hashes: &[u64], heights: &[u32]) -> bool
 }
 
 // `none_pending`: no ask's hash is pending.
-fn none_pending(words: &[u64], hashes: &[u64], heights: &[u32]) -> bool
+fn none_pending(words: &Words, hashes: &[u64], heights: &[u32]) -> bool
     requires { Whole words.now × (rising (window_of words.now).queue.pending ≡ true) }
     ensures { result ≡ none_pending (asks_in hashes.now heights.now) (window_of words.now).queue.pending }
 {
@@ -62,7 +62,7 @@ fn none_pending(words: &[u64], hashes: &[u64], heights: &[u32]) -> bool
 
 // `request_refusal`: 7, then 8. The tests take a time that grows with the square of the list's length. The sum of pending and
 // listed is never made.
-fn request_refusal(words: &[u64], hashes: &[u64], heights: &[u32]) -> Result<(), Refusal>
+fn request_refusal(words: &Words, hashes: &[u64], heights: &[u32]) -> Result<(), Refusal>
     requires { Whole words.now × (rising (window_of words.now).queue.pending ≡ true) }
     ensures { refusal_number result ≡ request_refusal (asks_in hashes.now heights.now) (window_of words.now) }
 {
@@ -84,7 +84,7 @@ fn request_refusal(words: &[u64], hashes: &[u64], heights: &[u32]) -> Result<(),
 
 // Any list: its tests, then its entries one by one.
 fn request_each(
-    words: &mut [u64],
+    words: &mut Words,
     hashes: &[u64],
     heights: &[u32],
     owner: u64,
@@ -102,7 +102,7 @@ fn request_each(
 
 // A list of one: its hash is looked up once, and its entry goes in where that ended.
 fn request_one(
-    words: &mut [u64],
+    words: &mut Words,
     hashes: &[u64],
     heights: &[u32],
     m: usize,
@@ -131,7 +131,7 @@ fn request_one(
 
 // A list of many: where the order of all rows is found, it is good, and is written in that order; else as any list.
 fn request_in_order(
-    words: &mut [u64],
+    words: &mut Words,
     hashes: &[u64],
     heights: &[u32],
     m: usize,
@@ -154,7 +154,7 @@ fn request_in_order(
 }
 
 fn request_list(
-    words: &mut [u64],
+    words: &mut Words,
     hashes: &[u64],
     heights: &[u32],
     owner: u64,
@@ -180,7 +180,7 @@ fn request_list(
 
 // `mark_requested`, the capacity that it leaves, and its clock; where its list is refused, that number, and nothing changes.
 pub fn request(
-    words: &mut [u64],
+    words: &mut Words,
     owner: u64,
     hashes: &[u64],
     heights: &[u32],

@@ -17,13 +17,13 @@ ghost use Rattle.request_order.specs.Order.{Ordered};
 ghost use Rattle.request_order.specs.Rows.{row_at, in_order};
 ghost use Rattle.request_many.specs.Fill.{Fillable};
 
-use model::{Entry, head, sizes};
+use model::{Entry, Words, head, sizes};
 
 // ---- every record once
 
 // `row_at`: a record, or an ask as the entry that it becomes.
 fn row_entry(
-    words: &[u64],
+    words: &Words,
     hashes: &[u64],
     heights: &[u32],
     m: usize,
@@ -32,7 +32,7 @@ fn row_entry(
     clock: u64,
     mean: u64,
 ) -> Entry
-    requires { (length words.now ≡ 4096) × ((m ≤ 256) × (row < m + length (asks_in hashes.now heights.now))) }
+    requires { (m ≤ 256) × (row < m + length (asks_in hashes.now heights.now)) }
     ensures { result ≡ row_at (take m (decode words.now).entries) hashes.now heights.now owner clock mean row }
 {
     if row < m {
@@ -45,8 +45,8 @@ fn row_entry(
 }
 
 // An entry written at a place.
-fn put_row(words: &mut [u64], at: usize, e: Entry)
-    requires { (length words.old ≡ 4096) × (at < 256) }
+fn put_row(words: &mut Words, at: usize, e: Entry)
+    requires { at < 256 }
     ensures { decode words.new ≡ with_entries (set (decode words.old).entries at e) (decode words.old) }
 {
     for k in 0..sizes::COLUMNS {
@@ -59,7 +59,7 @@ fn put_row(words: &mut [u64], at: usize, e: Entry)
 
 // The rows in their order, from the last down: a record moves up only, so that none is written over before it is read.
 fn fill(
-    words: &mut [u64],
+    words: &mut Words,
     hashes: &[u64],
     heights: &[u32],
     order: &[u64],
@@ -81,7 +81,7 @@ fn fill(
 
 // `filled`: `puts` at once.
 fn fill_all(
-    words: &mut [u64],
+    words: &mut Words,
     hashes: &[u64],
     heights: &[u32],
     order: &[u64],
@@ -110,7 +110,7 @@ fn fill_all(
 
 // `mark_requested`, in the order that was found.
 pub fn mark_in_order(
-    words: &mut [u64],
+    words: &mut Words,
     hashes: &[u64],
     heights: &[u32],
     order: &[u64],

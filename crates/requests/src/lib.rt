@@ -15,7 +15,7 @@ ghost use Rattle.requests.specs.Asks.{hash_in};
 ghost use Rattle.requests.specs.Puts.{place_of, Takes, Ready};
 ghost use Rattle.requests.specs.Rows.{forgotten, waits, risen, closed, filled};
 
-use model::{Entry, Hash};
+use model::{Entry, Hash, Words};
 
 // ---- one entry
 
@@ -42,7 +42,7 @@ fn place_of(p: Result<usize, usize>) -> usize
 }
 
 // `put` of an entry whose hash is absent, at the place where a search for it ended; its estimate is the mean.
-fn put_found(words: &mut [u64], at: usize, h: Hash, owner: u64, height: u64, clock: u64)
+fn put_found(words: &mut Words, at: usize, h: Hash, owner: u64, height: u64, clock: u64)
     requires { Whole words.old × (Takes h (window_of words.old) × Finds h (window_of words.old).queue.pending (Err at)) }
     ensures { Holds (with_queue (put (new_entry h owner clock height (window_of words.old).mean) (window_of words.old).queue) (window_of words.old)) words.new }
 {
@@ -52,7 +52,7 @@ fn put_found(words: &mut [u64], at: usize, h: Hash, owner: u64, height: u64, clo
 }
 
 // `put` of an entry whose hash is absent.
-pub fn put_one(words: &mut [u64], h: Hash, owner: u64, height: u64, clock: u64)
+pub fn put_one(words: &mut Words, h: Hash, owner: u64, height: u64, clock: u64)
     requires { Whole words.old × Takes h (window_of words.old) }
     ensures { Holds (with_queue (put (new_entry h owner clock height (window_of words.old).mean) (window_of words.old).queue) (window_of words.old)) words.new }
 {
@@ -88,7 +88,7 @@ pub fn hash_in(hashes: &[u64], k: usize) -> Hash
 }
 
 // `puts`: one entry after the other.
-fn put_all(words: &mut [u64], hashes: &[u64], heights: &[u32], n: usize, owner: u64, clock: u64)
+fn put_all(words: &mut Words, hashes: &[u64], heights: &[u32], n: usize, owner: u64, clock: u64)
     requires { Whole words.old × (((window_of words.old).mean ≤ max_estimate) × (Ready (asks_in hashes.now heights.now) (window_of words.old).queue × (n ≡ length (asks_in hashes.now heights.now)))) }
     ensures { Holds (filled (asks_in hashes.now heights.now) owner clock (window_of words.old)) words.new }
 {
@@ -102,7 +102,7 @@ fn put_all(words: &mut [u64], hashes: &[u64], heights: &[u32], n: usize, owner: 
 // ---- what else a request of n entries changes
 
 // `forgotten`: the attempted owner goes where nothing was pending.
-pub fn forget_attempted(words: &mut [u64], n: usize)
+pub fn forget_attempted(words: &mut Words, n: usize)
     requires { Whole words.old }
     ensures { Holds (forgotten n (window_of words.old)) words.new }
 {
@@ -113,7 +113,7 @@ pub fn forget_attempted(words: &mut [u64], n: usize)
 }
 
 // `waits`: the owner's start is noted.
-fn start_owner(words: &mut [u64], n: usize, owner: u64, clock: u64)
+fn start_owner(words: &mut Words, n: usize, owner: u64, clock: u64)
     requires { Whole words.old × ((owner ≤ max_seat) × (clock ≤ max_clock)) }
     ensures { Holds (waits n owner clock (window_of words.old)) words.new }
 {
@@ -123,7 +123,7 @@ fn start_owner(words: &mut [u64], n: usize, owner: u64, clock: u64)
 }
 
 // `risen`: the high waters follow the queue, and the frontier the next height.
-fn raise(words: &mut [u64], next: u64)
+fn raise(words: &mut Words, next: u64)
     requires { Whole words.old }
     ensures { Holds (risen next (window_of words.old)) words.new }
 {
@@ -140,7 +140,7 @@ fn raise(words: &mut [u64], next: u64)
 }
 
 // `closed`: what follows the puts of n entries.
-pub fn close(words: &mut [u64], n: usize, owner: u64, next: u64, clock: u64)
+pub fn close(words: &mut Words, n: usize, owner: u64, next: u64, clock: u64)
     requires { Whole words.old × ((owner ≤ max_seat) × (clock ≤ max_clock)) }
     ensures { Holds (closed n owner next clock (window_of words.old)) words.new }
 {
@@ -150,7 +150,7 @@ pub fn close(words: &mut [u64], n: usize, owner: u64, next: u64, clock: u64)
 
 // `mark_requested`
 pub fn mark_requested(
-    words: &mut [u64],
+    words: &mut Words,
     hashes: &[u64],
     heights: &[u32],
     owner: u64,
@@ -168,7 +168,7 @@ pub fn mark_requested(
 
 // `mark_requested` of a list of one, at the place where a search for its hash ended.
 pub fn mark_found(
-    words: &mut [u64],
+    words: &mut Words,
     hashes: &[u64],
     heights: &[u32],
     at: usize,

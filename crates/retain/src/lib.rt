@@ -2,8 +2,9 @@
 // where it is kept. What goes is written, nine words each, in `gone`; the answer is how many.
 #![tactic(auto)]
 
-ghost use Rattle.std.specs.Prelude.{◌≡◌, ◌≤◌, length};
+ghost use Rattle.std.specs.Prelude.{◌≡◌, ◌≤◌};
 ghost use Rattle.model.specs.Seats.{keep_seats};
+ghost use Rattle.model.specs.Reasons.{reason_number};
 ghost use Rattle.model.specs.LettingGo.{flagged, observation_kept, retain_peer_assignments, cold_kept, peer_kept, probe_kept, roles_kept, retain_owned_by};
 ghost use Rattle.model.specs.Layout.{window_of};
 ghost use Rattle.laws.specs.Whole.{Whole, Holds};
@@ -11,11 +12,10 @@ ghost use Rattle.laws.specs.Pending.{Ranged};
 ghost use Rattle.report_words.specs.Report.{releases_of};
 ghost use Rattle.retain.specs.Retains.{Roles};
 
-use model::{ColdFront, Observation, PrefixProbe, limits};
+use model::{ColdFront, Gone, Observation, PerSeat, PrefixProbe, Reason, Words, limits};
 
 // `flagged`, of any number: none above 255 is kept.
-pub fn is_kept(flags: &[u64], seat: u64) -> bool
-    requires { length flags.now ≡ 256 }
+pub fn is_kept(flags: &PerSeat, seat: u64) -> bool
     ensures { result ≡ flagged flags.now seat }
 {
     if limits::MAX_SEAT < seat {
@@ -28,8 +28,7 @@ pub fn is_kept(flags: &[u64], seat: u64) -> bool
 // ---- entries, starts, last bodies, observation
 
 // `observation_kept`
-fn observation_kept(flags: &[u64], o: Observation) -> Observation
-    requires { length flags.now ≡ 256 }
+fn observation_kept(flags: &PerSeat, o: Observation) -> Observation
     ensures { result ≡ observation_kept (flagged flags.now) o }
 {
     match o {
@@ -51,15 +50,15 @@ fn observation_kept(flags: &[u64], o: Observation) -> Observation
 
 // `retain_peer_assignments`
 pub fn retain_peer_assignments(
-    words: &mut [u64],
-    gone: &mut [u64],
-    flags: &[u64],
-    reason: u64,
+    words: &mut Words,
+    gone: &mut Gone,
+    flags: &PerSeat,
+    reason: Reason,
 ) -> usize
-    requires { Whole words.old × (Ranged (window_of words.old) × ((length gone.old ≡ 2304) × (length flags.now ≡ 256))) }
+    requires { Whole words.old × Ranged (window_of words.old) }
     ensures { (result ≤ 256)
-        × (Holds (retain_peer_assignments (flagged flags.now) reason (window_of words.old)).window words.new)
-        × (releases_of result gone.new ≡ (retain_peer_assignments (flagged flags.now) reason (window_of words.old)).gone) }
+        × (Holds (retain_peer_assignments (flagged flags.now) (reason_number reason) (window_of words.old)).window words.new)
+        × (releases_of result gone.new ≡ (retain_peer_assignments (flagged flags.now) (reason_number reason) (window_of words.old)).gone) }
 {
     let count = state_queue::pending_count(words);
     let marks = marks::lost_marks(words, count, flags, reason);
@@ -74,8 +73,7 @@ pub fn retain_peer_assignments(
 // ---- cold front, preferred, attempted owner, probe and racers
 
 // `cold_kept`
-fn cold_kept(flags: &[u64], x: ColdFront) -> ColdFront
-    requires { length flags.now ≡ 256 }
+fn cold_kept(flags: &PerSeat, x: ColdFront) -> ColdFront
     ensures { result ≡ cold_kept (flagged flags.now) x }
 {
     match x {
@@ -98,8 +96,7 @@ fn cold_kept(flags: &[u64], x: ColdFront) -> ColdFront
 }
 
 // `peer_kept`
-fn peer_kept(flags: &[u64], x: Option<u64>) -> Option<u64>
-    requires { length flags.now ≡ 256 }
+fn peer_kept(flags: &PerSeat, x: Option<u64>) -> Option<u64>
     ensures { result ≡ peer_kept (flagged flags.now) x }
 {
     match x {
@@ -114,8 +111,8 @@ fn peer_kept(flags: &[u64], x: Option<u64>) -> Option<u64>
 }
 
 // `probe_kept`: the probe goes with its owner, or where fewer than two racers are left.
-fn keep_probe(words: &mut [u64], flags: &[u64])
-    requires { Whole words.old × (length flags.now ≡ 256) }
+fn keep_probe(words: &mut Words, flags: &PerSeat)
+    requires { Whole words.old }
     ensures { Holds (probe_kept (flagged flags.now) (window_of words.old).races.probe (keep_seats (flagged flags.now) 0 (window_of words.old).races.racers) (window_of words.old)) words.new }
 {
     let p = state_races::get_probe(words);
@@ -136,8 +133,8 @@ fn keep_probe(words: &mut [u64], flags: &[u64])
 }
 
 // `roles_kept`
-fn keep_roles(words: &mut [u64], flags: &[u64])
-    requires { Whole words.old × ((length flags.now ≡ 256) × Roles (window_of words.old)) }
+fn keep_roles(words: &mut Words, flags: &PerSeat)
+    requires { Whole words.old × Roles (window_of words.old) }
     ensures { Holds (roles_kept (flagged flags.now) (window_of words.old)) words.new }
 {
     let c = state::get_cold(words);
@@ -153,12 +150,12 @@ fn keep_roles(words: &mut [u64], flags: &[u64])
 }
 
 // `retain_owned_by`
-pub fn retain_owned_by(words: &mut [u64], gone: &mut [u64], flags: &[u64]) -> usize
-    requires { Whole words.old × (Ranged (window_of words.old) × (Roles (window_of words.old) × ((length gone.old ≡ 2304) × (length flags.now ≡ 256)))) }
+pub fn retain_owned_by(words: &mut Words, gone: &mut Gone, flags: &PerSeat) -> usize
+    requires { Whole words.old × Ranged (window_of words.old) × Roles (window_of words.old) }
     ensures { (result ≤ 256)
         × (Holds (retain_owned_by flags.now (window_of words.old)).window words.new)
         × (releases_of result gone.new ≡ (retain_owned_by flags.now (window_of words.old)).gone) }
 {
     keep_roles(words, flags);
-    retain_peer_assignments(words, gone, flags, 8)
+    retain_peer_assignments(words, gone, flags, Reason::SeatLost)
 }

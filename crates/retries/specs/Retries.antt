@@ -1,13 +1,13 @@
 -- What was swept and is asked for again, as a loop over the swept finds it. Definitions, and what they are to the model's. Assumes nothing.
-use Rattle.std.specs.Prelude.{◌≡◌, refl, Bool, true, false, cond, not, ◌||◌, ℕ, zero, suc, ◌+◌, ◌-◌, ◌*◌, ◌/◌, ◌%◌, ◌≤◌, ◌<◌, length, get_or, take, eqb, leb, None, Some, Option}
+use Rattle.std.specs.Prelude.{◌≡◌, refl, Bool, true, false, cond, not, ◌||◌, ℕ, zero, suc, ◌+◌, ◌-◌, ◌*◌, ◌%◌, ◌≤◌, ◌<◌, length, get_or, take, eqb, None, Option}
 use Rattle.std.proofs.Math.Path.{sym, ap}
-use Rattle.std.proofs.Common.{subst, ◌∙◌, inl, inr, true≢false, not-suc-le-zero, le_of_suc-le-suc, add-one, length-append, get_or-take, length-take-le, ltb-false, leb-true, leb-false}
+use Rattle.std.proofs.Common.{subst, ◌∙◌, true≢false, not-suc-le-zero, le_of_suc-le-suc, add-one, length-append, get_or-take, length-take-le, ltb-false}
 use mathlib.Core.List.{List, [], ◌∷◌, ◌++◌, append_assoc, append-nil}
 use native.Mathlib.Omega.{arith}
 use Rattle.std.proofs.Math.ListN.{drop, drop_of_length-le}
 use Rattle.std.proofs.Math.Dec.{ltb}
 use Rattle.std.proofs.lemmas.Bool.{eqb-false}
-use Rattle.model.specs.Numbers.{lesser, max_height}
+use Rattle.model.specs.Numbers.{max_height}
 use Rattle.model.specs.Hash.{hash_words}
 use Rattle.model.specs.Window.{Window}
 use Rattle.model.specs.Layout.{window_of, rising}
@@ -15,14 +15,13 @@ use Rattle.model.specs.Races.{by_height}
 use Rattle.model.specs.Calls.{Ask}
 use Rattle.model.specs.Planning.{Lent, Draft, draft, ask, and_ask, lower_of, names, is_pending, is_staged, is_refused, is_open, expired_request_entries, swept_asks, ask_hashes, ask_heights, written}
 use Rattle.model.specs.declared.Hash.{Hash}
-use Rattle.laws.specs.Numbers.{both, lesser_first, lesser_second}
 use Rattle.laws.specs.RequestsKept.{Low}
 use Rattle.laws.specs.Whole.{Whole}
 use Rattle.report_words.specs.Report.{releases_of}
 use Rattle.batch.specs.Resets.{Went}
 use Rattle.listed.specs.Index.{Indexed}
-use Rattle.plan_lists.specs.Lists.{placed, hashes_put, heights_put, height_of}
-use Rattle.swept_order.specs.Keys.{entry_from, asks_for, asks_by, low_height, swept_low}
+use Rattle.plan_lists.specs.Lists.{placed, hashes_put, heights_put}
+use Rattle.swept_order.specs.Keys.{entry_from, asks_for, asks_by, low_height}
 
 -- ---- what is read of what is lent
 
@@ -114,22 +113,6 @@ module _ (l : Lent) (w : Window) (a : Ask) (rest : List Ask) (room bytes : ℕ) 
     unfolding expired_request_entries
     takes r p = rw (q, r, sym closed ∙ p)
 
--- ---- the lowest refused height, as a number
-
-pub lower_none : (low n : ℕ) → low ≡ 0 → height_of (n + 1) ≡ lower_of (height_of low) n
-lower_none zero n z = ap height_of (add-one n)
-lower_none (suc m) n z = absurd (omega arith)
-
-lesser_suc : (m n : ℕ) → lesser (suc m) (n + 1) ≡ suc (lesser m n)
-lesser_suc m n = elim (both (leb m n)) [
-  | inl q ↦ let h = leb-true m n q in rw (lesser_first m n h, lesser_first (suc m) (n + 1) (omega arith))
-  | inr q ↦ let h = leb-false m n q in rw (lesser_second m n (omega arith), lesser_second (suc m) (n + 1) (omega arith)) (omega arith)
-]
-
-pub lower_some : (low n : ℕ) → (low ≡ 0 → ⊥) → height_of (lesser low (n + 1)) ≡ lower_of (height_of low) n
-lower_some zero n z = absurd (z refl)
-lower_some (suc m) n z = ap height_of (lesser_suc m n)
-
 -- ---- the asks of the keys
 
 asks_drop : (core ks : List ℕ) (i : ℕ) → i < length ks → drop i (asks_by core ks) ≡ asks_for (entry_from core (get_or ks i 0 % 256)) ∷ drop (suc i) (asks_by core ks)
@@ -150,7 +133,7 @@ low_drop (x ∷ asks) (suc i) a rest h e = low_drop asks i a rest h.1 e
 
 -- ---- what a caller lends and gets
 
-pub record Lends (words gone hs ts ix staged six refused rix : List ℕ) (n batch : ℕ) : Type 0 where
+pub record Lends (words gone hs ts ix : List ℕ) (n batch : ℕ) : Type 0 where
   pub whole : Whole words
   pub rises : rising (window_of words).queue.pending ≡ true
   pub long : length gone ≡ 2304
@@ -159,17 +142,15 @@ pub record Lends (words gone hs ts ix staged six refused rix : List ℕ) (n batc
   pub hashes : 4 * batch ≤ length hs
   pub heights : batch ≤ length ts
   pub index : Indexed 0 hs ix
-  pub staged_index : Indexed (length staged / 4) staged six
-  pub refused_index : Indexed (length refused / 4) refused rix
 
 -- the lent lists hold the draft d, and the numbers say it: n entries, the bytes left, the lowest refused height
-pub record Drafted (d : Draft) (batch : ℕ) (hs₀ ts₀ hs ts ix : List ℕ) (n left lowest : ℕ) : Type 0 where
+pub record Drafted (d : Draft) (batch : ℕ) (hs₀ ts₀ hs ts ix : List ℕ) (n left : ℕ) (lowest : Option ℕ) : Type 0 where
   pub count : n ≡ length d.asks
   pub few : n ≤ batch
   pub hashes : hs ≡ written (ask_hashes d.asks) hs₀
   pub heights : ts ≡ written (ask_heights d.asks) ts₀
   pub bytes : left ≡ d.bytes
-  pub low : height_of lowest ≡ d.low
+  pub low : lowest ≡ d.low
   pub index : Indexed n hs ix
 
 -- ---- the loop: what is taken of the first i, and what the others come to, are all
@@ -180,7 +161,7 @@ and_asks taken d = draft (taken ++ d.asks) d.bytes d.low
 and_more : (taken : List Ask) (a : Ask) (d : Draft) → and_asks taken (and_ask a d) ≡ and_asks (taken ++ (a ∷ [])) d
 and_more taken a d = ap (λ (x : List Ask). draft x d.bytes d.low) (sym (append_assoc taken (a ∷ []) d.asks))
 
-pub record Going (l : Lent) (w : Window) (asks : List Ask) (batch bytes : ℕ) (hs₀ ts₀ ix₀ hs ts ix : List ℕ) (n left lowest i : ℕ) : Type 0 where
+pub record Going (l : Lent) (w : Window) (asks : List Ask) (batch bytes : ℕ) (hs₀ ts₀ ix₀ hs ts ix : List ℕ) (n left : ℕ) (lowest : Option ℕ) (i : ℕ) : Type 0 where
   pub taken : List Ask
   pub count : n ≡ length taken
   pub few : n ≤ batch
@@ -190,10 +171,10 @@ pub record Going (l : Lent) (w : Window) (asks : List Ask) (batch bytes : ℕ) (
   pub long_hashes : length hs ≡ length hs₀
   pub long_heights : length ts ≡ length ts₀
   pub long_index : length ix ≡ length ix₀
-  pub is : expired_request_entries l w asks batch bytes None ≡ and_asks taken (expired_request_entries l w (drop i asks) (batch - n) left (height_of lowest))
+  pub is : expired_request_entries l w asks batch bytes None ≡ and_asks taken (expired_request_entries l w (drop i asks) (batch - n) left lowest)
 
 module _ (l : Lent) (w : Window) (asks : List Ask) (batch bytes : ℕ) (hs₀ ts₀ ix₀ : List ℕ) where
-  pub going_start : Indexed 0 hs₀ ix₀ → Going l w asks batch bytes hs₀ ts₀ ix₀ hs₀ ts₀ ix₀ 0 bytes 0 0
+  pub going_start : Indexed 0 hs₀ ix₀ → Going l w asks batch bytes hs₀ ts₀ ix₀ hs₀ ts₀ ix₀ 0 bytes None 0
   unfolding ask_hashes ask_heights written
   going_start g =
       let e : batch ≡ batch - 0 = omega arith in
@@ -210,36 +191,36 @@ module _ (l : Lent) (w : Window) (asks : List Ask) (batch bytes : ℕ) (hs₀ ts
         is = ap (λ (room : ℕ). expired_request_entries l w asks room bytes None) e;
       }
 
-  module _ (hs ts ix : List ℕ) (n left lowest i : ℕ) (g : Going l w asks batch bytes hs₀ ts₀ ix₀ hs ts ix n left lowest i) where
+  module _ (hs ts ix : List ℕ) (n left : ℕ) (lowest : Option ℕ) (i : ℕ) (g : Going l w asks batch bytes hs₀ ts₀ ix₀ hs ts ix n left lowest i) where
     -- what is left comes to nothing
-    ends : expired_request_entries l w (drop i asks) (batch - n) left (height_of lowest) ≡ draft [] left (height_of lowest)
+    ends : expired_request_entries l w (drop i asks) (batch - n) left lowest ≡ draft [] left lowest
         → Drafted (expired_request_entries l w asks batch bytes None) batch hs₀ ts₀ hs ts ix n left lowest
     ends q =
-        let e : expired_request_entries l w asks batch bytes None ≡ draft g.taken left (height_of lowest) =
-        g.is ∙ ap (and_asks g.taken) q ∙ ap (λ (x : List Ask). draft x left (height_of lowest)) (append-nil g.taken) in
+        let e : expired_request_entries l w asks batch bytes None ≡ draft g.taken left lowest =
+        g.is ∙ ap (and_asks g.taken) q ∙ ap (λ (x : List Ask). draft x left lowest) (append-nil g.taken) in
         rw e (record { count = g.count; few = g.few; hashes = g.hashes; heights = g.heights; bytes = refl; low = refl; index = g.index })
 
     pub going_end : length asks ≤ i → Drafted (expired_request_entries l w asks batch bytes None) batch hs₀ ts₀ hs ts ix n left lowest
     unfolding expired_request_entries
     going_end h =
         let none : drop i asks ≡ [] = drop_of_length-le asks {i = i} h in
-        ends (ap (λ (x : List Ask). expired_request_entries l w x (batch - n) left (height_of lowest)) none)
+        ends (ap (λ (x : List Ask). expired_request_entries l w x (batch - n) left lowest) none)
 
     module _ (mean : ℕ) (same : mean ≡ w.mean) (a : Ask) (next : drop i asks ≡ a ∷ drop (suc i) asks) where
       abbrev rest : List Ask
       rest = drop (suc i) asks
 
-      by_next : expired_request_entries l w (drop i asks) (batch - n) left (height_of lowest) ≡ expired_request_entries l w (a ∷ rest) (batch - n) left (height_of lowest)
-      by_next = ap (λ (x : List Ask). expired_request_entries l w x (batch - n) left (height_of lowest)) next
+      by_next : expired_request_entries l w (drop i asks) (batch - n) left lowest ≡ expired_request_entries l w (a ∷ rest) (batch - n) left lowest
+      by_next = ap (λ (x : List Ask). expired_request_entries l w x (batch - n) left lowest) next
 
       of_window : full (batch - n) left w.mean ≡ full (batch - n) left mean
       of_window = ap (full (batch - n) left) (sym same)
 
       pub going_stop : full (batch - n) left mean ≡ true → Drafted (expired_request_entries l w asks batch bytes None) batch hs₀ ts₀ hs ts ix n left lowest
-      going_stop q = ends (by_next ∙ stops l w a rest (batch - n) left (height_of lowest) (of_window ∙ q))
+      going_stop q = ends (by_next ∙ stops l w a rest (batch - n) left lowest (of_window ∙ q))
 
       module _ (q : full (batch - n) left mean ≡ false) where
-        pub going_refused : (lower : ℕ) → is_refused l a ≡ true → height_of lower ≡ lower_of (height_of lowest) a.height
+        pub going_refused : (lower : Option ℕ) → is_refused l a ≡ true → lower ≡ lower_of lowest a.height
             → Going l w asks batch bytes hs₀ ts₀ ix₀ hs ts ix n left lower (i + 1)
         going_refused lower r e = rw add-one (record {
           taken = g.taken;
@@ -251,7 +232,7 @@ module _ (l : Lent) (w : Window) (asks : List Ask) (batch bytes : ℕ) (hs₀ ts
           long_hashes = g.long_hashes;
           long_heights = g.long_heights;
           long_index = g.long_index;
-          is = g.is ∙ ap (and_asks g.taken) (by_next ∙ notes l w a rest (batch - n) left (height_of lowest) (of_window ∙ q) r
+          is = g.is ∙ ap (and_asks g.taken) (by_next ∙ notes l w a rest (batch - n) left lowest (of_window ∙ q) r
               ∙ ap (expired_request_entries l w rest (batch - n) left) (sym e));
         })
 
@@ -267,7 +248,7 @@ module _ (l : Lent) (w : Window) (asks : List Ask) (batch bytes : ℕ) (hs₀ ts
             long_hashes = g.long_hashes;
             long_heights = g.long_heights;
             long_index = g.long_index;
-            is = g.is ∙ ap (and_asks g.taken) (by_next ∙ skips l w a rest (batch - n) left (height_of lowest) (of_window ∙ q) r p);
+            is = g.is ∙ ap (and_asks g.taken) (by_next ∙ skips l w a rest (batch - n) left lowest (of_window ∙ q) r p);
           })
 
           pub going_taken : (hs' ts' ix' : List ℕ) → passed_by l.staged l.floor w a ≡ false
@@ -287,9 +268,9 @@ module _ (l : Lent) (w : Window) (asks : List Ask) (batch bytes : ℕ) (hs₀ ts
                 long_hashes = lh ∙ g.long_hashes;
                 long_heights = lt ∙ g.long_heights;
                 long_index = lx ∙ g.long_index;
-                is = g.is ∙ ap (and_asks g.taken) (by_next ∙ takes l w a rest (batch - n) left (height_of lowest) (of_window ∙ q) r p)
-                    ∙ and_more g.taken a (expired_request_entries l w rest (batch - n - 1) (left - w.mean) (height_of lowest))
-                    ∙ (λ j. and_asks (g.taken ++ (a ∷ [])) (expired_request_entries l w rest (room j) (left - sym same j) (height_of lowest)));
+                is = g.is ∙ ap (and_asks g.taken) (by_next ∙ takes l w a rest (batch - n) left lowest (of_window ∙ q) r p)
+                    ∙ and_more g.taken a (expired_request_entries l w rest (batch - n - 1) (left - w.mean) lowest)
+                    ∙ (λ j. and_asks (g.taken ++ (a ∷ [])) (expired_request_entries l w rest (room j) (left - sym same j) lowest));
               })
 
 -- ---- the swept, in the order of their keys
@@ -322,10 +303,10 @@ no_asks zero core z = omega arith
 no_asks (suc n) core z = absurd (omega arith)
 
 pub none_swept : (staged refused words gone hs ts ix : List ℕ) (floor n batch bytes : ℕ) → n ≡ 0 → Indexed 0 hs ix
-    → Drafted (retries staged refused floor words n gone batch bytes) batch hs ts hs ts ix 0 bytes 0
+    → Drafted (retries staged refused floor words n gone batch bytes) batch hs ts hs ts ix 0 bytes None
 unfolding retries
 none_swept staged refused words gone hs ts ix floor n batch bytes z g =
     let l = lent_for staged refused floor in
     let w = window_of words in
     let asks = swept_asks (releases_of n gone) in
-    going_end l w asks batch bytes hs ts ix hs ts ix 0 bytes 0 0 (going_start l w asks batch bytes hs ts ix g) (no_asks n gone z)
+    going_end l w asks batch bytes hs ts ix hs ts ix 0 bytes None 0 (going_start l w asks batch bytes hs ts ix g) (no_asks n gone z)

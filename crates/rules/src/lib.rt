@@ -20,18 +20,18 @@ pub fn unless_observed(h: Hash, source: u64, o: Observation) -> Observation
     ensures { result ≡ unless_observed h source o }
 {
     match o {
-        Observation::Unarmed => Observation::Unarmed,
+        Observation::Unarmed => o,
         Observation::Armed(owner, x) => {
             if is_ask(x, owner, h, source) {
                 return Observation::Unarmed;
             }
-            Observation::Armed(owner, x)
+            o
         }
         Observation::Swept(owner, x) => {
             if is_ask(x, owner, h, source) {
                 return Observation::Unarmed;
             }
-            Observation::Swept(owner, x)
+            o
         }
     }
 }
@@ -42,24 +42,14 @@ pub fn unless_stalled(h: Hash, source: u64, s: Option<StallEpisode>) -> Option<S
 {
     match s {
         None => None,
-        Some(
-            StallEpisode {
-                owner,
-                front,
-                since,
-            },
-        ) => {
-            if owner == source {
+        Some(x) => {
+            if x.owner == source {
                 return None;
             }
-            if hash::equal(front, h) {
+            if hash::equal(x.front, h) {
                 return None;
             }
-            Some(StallEpisode {
-                owner,
-                front,
-                since,
-            })
+            s
         }
     }
 }
@@ -69,18 +59,18 @@ pub fn unless_front(h: Hash, source: u64, x: ColdFront) -> ColdFront
     ensures { result ≡ unless_front h source x }
 {
     match x {
-        ColdFront::Idle => ColdFront::Idle,
-        ColdFront::Waiting(owner, g, since) => {
+        ColdFront::Idle => x,
+        ColdFront::Waiting(owner, g, _) => {
             if is_ask(g, owner, h, source) {
                 return ColdFront::Idle;
             }
-            ColdFront::Waiting(owner, g, since)
+            x
         }
         ColdFront::Racing(owner, alternate, g) => {
             if hash::equal(g, h) & ((source == owner) | (source == alternate)) {
                 return ColdFront::Idle;
             }
-            ColdFront::Racing(owner, alternate, g)
+            x
         }
     }
 }
@@ -105,10 +95,7 @@ pub fn mean_after(front: Option<Entry>, mean: u64, bytes: u64) -> u64
 fn is_young(p: Option<PrefixProbe>, initial: u64, clock: u64) -> bool
     ensures { result ≡ is_young p initial clock }
 {
-    match p {
-        None => false,
-        Some(PrefixProbe { started, .. }) => numbers::minus(clock, started) < initial,
-    }
+    p.is_some_and(|x| clock.saturating_sub(x.started) < initial)
 }
 
 // `engages` on what it reads: the least peers for fan-out, the first stall wait, whether it is engaged, the probe.
@@ -128,7 +115,7 @@ pub fn engages(
         }
         return true;
     }
-    if n < numbers::minus(least, 1) {
+    if n < least.saturating_sub(1) {
         return false;
     }
     engaged

@@ -1,14 +1,15 @@
 -- What a call of the demo is given by its numbers, and what is written of it.
-use Rattle.std.specs.Prelude.{Bool, true, false, ◌||◌, List, ℕ, zero, suc, ◌+◌, ◌*◌, ◌-◌, ◌%◌, eqb, ltb, set, replicate, Result}
-use Rattle.model.specs.Numbers.{lesser}
+use Rattle.std.specs.Prelude.{Bool, true, false, cond, List, ℕ, zero, suc, ◌+◌, ◌*◌, ◌-◌, ◌%◌, ltb, set, replicate, min, Option, None, Some, Result}
 use Rattle.model.specs.declared.Settings.{Settings}
+use Rattle.model.specs.declared.Refusal.{Refusal}
 use Rattle.ledger.specs.Book.{value}
 use Rattle.lines.specs.declared.Call.{Call}
+use Rattle.lines.specs.declared.Call.TheVariants.{MarkRequested, NextPeerRequest}
+use Rattle.lines.specs.declared.Made.{Made}
 use Rattle.lines.specs.declared.After.{After}
 use Rattle.script.specs.declared.Step.{Step}
 use Rattle.script.specs.declared.Plan.{Plan}
 use Rattle.script.specs.declared.Span.{Span}
-use Rattle.model.specs.declared.Refusal.{Refusal}
 
 -- the Rust's `default_sync_budget`, with a block every ten minutes
 abbrev pub settings : Settings
@@ -39,40 +40,51 @@ height_of n = n % 4294967296
 abbrev pub height_after : ℕ → ℕ → ℕ
 height_after first n = height_of (first + n)
 
--- of eight blocks the first so many: hashes of four words, of which the last is the height
-unfoldable pub hashes : ℕ → ℕ → List ℕ
-hashes zero first = replicate 32 0
-hashes (suc i) first = set (hashes i first) (4 * i + 3) (first + i)
+-- in so many words the first so many blocks from one on: hashes of four words, of which the last is the height
+unfoldable pub hashes : ℕ → ℕ → ℕ → List ℕ
+hashes words zero first = replicate words 0
+hashes words (suc i) first = set (hashes words i first) (4 * i + 3) (first + i)
 
--- the chain from block 0 on, its first so many blocks of 64
-unfoldable pub chain : ℕ → List ℕ
-chain zero = replicate 256 0
-chain (suc i) = set (chain i) (4 * i + 3) i
-
--- how many words of it go up to the tip
+-- how many words of the chain, which has 64 blocks, go up to the tip
 unfoldable pub words_to : ℕ → ℕ
-words_to tip = 4 * lesser (tip + 1) 64
+words_to tip = 4 * min (tip + 1) 64
 
--- the blocks that a call names: of the script, of more than eight only eight; or of the plan
-abbrev pub named_by : Bool → Step → Plan → Span
-named_by true s p = record { count = p.count; first = p.first; last = p.last }
-named_by false s p = record { count = s.count; first = s.first; last = s.first + (lesser s.count 8 - 1) }
+-- ---- the blocks that a call names
 
--- 1 marks the plan, 15 makes it
-unfoldable pub named : Step → Plan → Span
-named s p = named_by (eqb s.call 1 || eqb s.call 15) s p
+abbrev pub shown_if : Bool → ℕ → Option ℕ
+shown_if true n = Some n
+shown_if false n = None
 
--- a call that names no peer has 0 there, one about no blocks 0 of them
-unfoldable pub call_of : Step → Plan → Call
-call_of s p = let n = named s p in record {
+-- the first where there is one, the last where there are several
+abbrev pub span_of : ℕ → ℕ → ℕ → Span
+span_of count first last = record { first = shown_if (ltb 0 count) first; last = shown_if (ltb 1 count) last }
+
+-- of more than eight only eight
+abbrev pub last_of : ℕ → ℕ → ℕ
+last_of first count = first + (min count 8 - 1)
+
+abbrev pub of_plan : Option Plan → Span
+of_plan None = span_of 0 0 0
+of_plan (Some p) = span_of p.count p.first p.last
+
+-- one marks the plan, the other makes it
+abbrev pub names_plan : Call → Bool
+names_plan MarkRequested = true
+names_plan NextPeerRequest = true
+names_plan _ = false
+
+-- of the plan, or of the script
+unfoldable pub named : Step → Option Plan → Span
+named s p = cond (names_plan s.call) (of_plan p) (span_of s.count s.first (last_of s.first s.count))
+
+-- a call that names no peer has 0 there
+unfoldable pub made : Step → Option Plan → Made
+made s p = record {
   time = s.time;
-  name = s.call;
-  peered = ltb 0 s.peer;
-  peer = s.peer;
-  blocks = ltb 0 n.count;
-  first = n.first;
-  ranged = ltb 1 n.count;
-  last = n.last;
+  call = s.call;
+  peer = shown_if (ltb 0 s.peer) s.peer;
+  first = (named s p).first;
+  last = (named s p).last;
 }
 
 -- what the window says is pending: blocks, bytes, and the peer's blocks

@@ -1,8 +1,10 @@
 -- What the demo keeps of a call: the last plan, and which blocks are staged.
-use Rattle.std.specs.Prelude.{Bool, cond, not, ◌&&◌, ◌||◌, List, ℕ, ◌+◌, ◌-◌, eqb, leb, length, get_or, set, Option, None, Some, Result, Ok, Err}
+use Rattle.std.specs.Prelude.{Bool, true, false, cond, ◌&&◌, List, [], ◌∷◌, ◌++◌, ℕ, ◌-◌, leb, length, get_or, Option, None, Some, Result, Ok, Err}
 use Rattle.model.specs.declared.NextRequest.{NextRequest}
 use Rattle.model.specs.declared.Request.{Request}
 use Rattle.model.specs.declared.Refusal.{Refusal}
+use Rattle.lines.specs.declared.Call.{Call}
+use Rattle.lines.specs.declared.Call.TheVariants.{MarkReceivedFrom, ReleasePending}
 use Rattle.lines.specs.declared.Said.{Said}
 use Rattle.script.specs.Given.{height_of}
 use Rattle.script.specs.declared.Step.{Step}
@@ -12,26 +14,29 @@ use Rattle.script.specs.declared.Plan.{Plan}
 unfoldable pub plan_of : ℕ → ℕ → List ℕ → Plan
 plan_of count next heights = record { count = count; first = get_or heights 0 0; last = get_or heights (count - 1) 0; next = height_of next }
 
-abbrev pub plan_of_request : Option Request → List ℕ → Plan
-plan_of_request None heights = plan_of 0 0 heights
-plan_of_request (Some r) heights = plan_of r.count r.next_height heights
+abbrev pub plan_of_request : Option Request → List ℕ → Option Plan
+plan_of_request None heights = None
+plan_of_request (Some r) heights = Some (plan_of r.count r.next_height heights)
 
 -- a refused call makes no plan
-abbrev pub planned : Result NextRequest Refusal → List ℕ → Plan
-planned (Err r) heights = plan_of 0 0 heights
+abbrev pub planned : Result NextRequest Refusal → List ℕ → Option Plan
+planned (Err r) heights = None
 planned (Ok n) heights = plan_of_request n.request heights
 
--- a block came: 3 its body, 7 by another way
-abbrev pub came : ℕ → Bool → Bool
-came call refuses = (eqb call 3 || eqb call 7) && not refuses
+-- a block comes by the call: its body, or by another way
+abbrev pub came : Call → Bool
+came MarkReceivedFrom = true
+came ReleasePending = true
+came _ = false
 
--- and is staged, where its four words fit behind the first n
-abbrev pub stages : Step → Said → ℕ → List ℕ → Bool
-stages s said n l = came s.call said.refuses && leb (n + 4) (length l)
+abbrev pub accepted : Result Said Refusal → Bool
+accepted (Err r) = false
+accepted (Ok s) = true
 
--- the first three words of its hash are 0, as is all that stands behind the first n
-abbrev pub staged_after : Step → Said → ℕ → List ℕ → List ℕ
-staged_after s said n l = cond (stages s said n l) (set l (n + 3) s.first) l
+-- and is staged where the call was accepted and there is room for its four words
+abbrev pub stages : Step → Result Said Refusal → List ℕ → Bool
+stages s said l = came s.call && accepted said && leb (length l) 252
 
-abbrev pub words_after : Step → Said → ℕ → List ℕ → ℕ
-words_after s said n l = cond (stages s said n l) (n + 4) n
+-- the first three words of its hash are 0
+abbrev pub staged_after : Step → Result Said Refusal → List ℕ → List ℕ
+staged_after s said l = cond (stages s said l) (l ++ (0 ∷ 0 ∷ 0 ∷ s.first ∷ [])) l

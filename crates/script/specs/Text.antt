@@ -1,6 +1,10 @@
 -- The demo's script as text: where a line ends, the number in its columns, and the call that it is.
 use Rattle.std.specs.Prelude.{cond, List, [], ◌∷◌, ℕ, zero, suc, ◌+◌, ◌*◌, ◌-◌, ◌%◌, eqb, ltb, get_or}
 use Rattle.model.specs.declared.Hash.{Hash}
+use Rattle.std.specs.Option.{unwrap_or}
+use Rattle.lines.specs.Words.{numbered}
+use Rattle.lines.specs.declared.Call.{Call}
+use Rattle.lines.specs.declared.Call.TheVariants.{Open}
 use Rattle.script.specs.declared.Step.{Step}
 
 -- how many bytes the first line of a text has, its line end with them
@@ -21,10 +25,14 @@ number_in line from (suc i) = with_digit (number_in line from i) (get_or line (f
 abbrev pub hash_of : ℕ → Hash
 hash_of height = record { a = 0; b = 0; c = 0; d = height }
 
+-- a number that is no call's opens the window
+abbrev pub called : ℕ → Call
+called n = unwrap_or (numbered n) Open
+
 -- the columns of a call's line: after the colon 3 for which call, 6 for tenths of a second, 4 for the peer, 3 and 2 for the first block and how many, 7 for one number more
 unfoldable pub step_of : List ℕ → Step
 step_of line = record {
-  call = number_in line 1 3;
+  call = called (number_in line 1 3);
   time = number_in line 4 6;
   clock = number_in line 4 6 * 100000000;
   peer = number_in line 10 4;

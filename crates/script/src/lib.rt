@@ -2,23 +2,22 @@
 // numbers in the columns of its line, what a call is given by them, and the line that is written of it.
 #![tactic(auto)]
 
-ghost use Rattle.std.specs.Prelude.{◌≡◌, ◌+◌, ◌*◌, ◌-◌, ◌%◌, ◌≤◌, ◌<◌, eqb, leb, length, get_or, set, take, drop, replicate, MatchOption};
+ghost use Rattle.std.specs.Prelude.{◌≡◌, ◌+◌, ◌*◌, ◌-◌, ◌/◌, ◌%◌, ◌≤◌, ◌<◌, eqb, length, ℕ, List, [], get_or, set, take, drop, replicate, MatchOption};
 ghost use Rattle.std.specs.Iterator.{at_most};
-ghost use Rattle.model.specs.Numbers.{lesser};
 ghost use Rattle.lines.specs.Rows.{row};
 ghost use Rattle.script.specs.Text.{line_length, with_digit, number_in, hash_of, step_of};
-ghost use Rattle.script.specs.Given.{settings, hashes, keys, height_after, height_of, chain, words_to, named, call_of, after_of};
-ghost use Rattle.script.specs.Kept.{plan_of, planned, came, staged_after, words_after};
+ghost use Rattle.script.specs.Given.{settings, hashes, keys, height_after, height_of, words_to, span_of, names_plan, last_of, named, made, after_of};
+ghost use Rattle.script.specs.Kept.{plan_of, planned, came, staged_after};
 
-use ledger::value;
-use lines::{After, Call, Said};
-use model::{Hash, NextRequest, Refusal, Request, Settings};
+use lines::{After, Call, Made, Said};
+use model::{Hash, NextRequest, Refusal, Settings};
+use std::marker::Model;
 
-// A call of the script: its place among the names in lines::words, tenths of a second and the clock in nanoseconds, the peer, the first block with its hash and how many
-// blocks, and one number more.
+// A call of the script: tenths of a second and the clock in nanoseconds, the peer, the first block with its hash and how many blocks, and one number more. A number that its
+// line leaves blank is 0.
 #[derive(Clone, Copy)]
 pub struct Step {
-    pub call: usize,
+    pub call: Call,
     pub time: u64,
     pub clock: u64,
     pub peer: u64,
@@ -28,7 +27,7 @@ pub struct Step {
     pub other: u64,
 }
 
-// The last plan of a request: how many blocks, the first and the last of them, and the height after it.
+// A planned request: how many blocks, the first and the last of them, and the height after it.
 #[derive(Clone, Copy)]
 pub struct Plan {
     pub count: usize,
@@ -37,12 +36,11 @@ pub struct Plan {
     pub next: u32,
 }
 
-// The blocks that a call names: how many, the first and the last.
+// The blocks that a call names: the first, and the last of several.
 #[derive(Clone, Copy)]
 pub struct Span {
-    pub count: u64,
-    pub first: u64,
-    pub last: u64,
+    pub first: Option<u64>,
+    pub last: Option<u64>,
 }
 
 // ---- a text and its lines
@@ -91,10 +89,7 @@ impl<'a> Iterator for Lines<'a> {
 fn byte_at(line: &[u8], place: usize) -> u8
     ensures { result ≡ get_or line.now place 0 }
 {
-    if place >= line.len() {
-        return 0;
-    }
-    line[place]
+    line.get(place).copied().unwrap_or(0)
 }
 
 pub fn is_call(line: &[u8]) -> bool
@@ -107,16 +102,14 @@ pub fn is_call(line: &[u8]) -> bool
 fn with_digit(n: u32, byte: u8) -> u32
     ensures { result ≡ with_digit n byte }
 {
-    if byte < b'0' {
-        return n;
+    match byte {
+        b'0'..=b'9' => (n % 100_000_000) * 10 + (byte - b'0') as u32,
+        _ => n,
     }
-    if byte > b'9' {
-        return n;
-    }
-    (n % 100_000_000) * 10 + (byte - b'0') as u32
 }
 
 // The number in the columns from a place on. A call's line has 26.
+#[tactic(auto, unfolding(crate::specs::Text::number_in))]
 fn number_in(line: &[u8], from: usize, width: usize) -> u32
     requires { from + width ≤ 26 }
     ensures { result ≡ number_in line.now from width }
@@ -147,7 +140,8 @@ fn clock_of(time: u32) -> u64
     (time as u64) * 100_000_000
 }
 
-// A call, from its line.
+// A call, from its line. A number that is no call's opens the window.
+#[tactic(auto, unfolding(crate::specs::Text::step_of))]
 pub fn step_of(line: &[u8]) -> Step
     ensures { result ≡ step_of line.now }
 {
@@ -158,7 +152,7 @@ pub fn step_of(line: &[u8]) -> Step
     let count = number_in(line, 17, 2);
     let other = number_in(line, 19, 7);
     Step {
-        call: call as usize,
+        call: Call::try_from(call).unwrap_or(Call::Open),
         time: time as u64,
         clock: clock_of(time),
         peer: peer as u64,
@@ -192,6 +186,7 @@ pub fn settings() -> Settings
 }
 
 // Each seat has a key of its own.
+#[tactic(auto, unfolding(crate::specs::Given::keys))]
 pub fn keys() -> [u64; 256]
     ensures { result ≡ keys 256 }
 {
@@ -202,30 +197,33 @@ pub fn keys() -> [u64; 256]
     l
 }
 
+const SEATS: u64 = 256;
+
 // Every seat is kept but the peer's.
 pub fn all_but(peer: u64) -> [u64; 256]
     ensures { result ≡ set (replicate 256 1) peer 0 }
 {
     let mut l: [u64; 256] = [1; 256];
-    if peer >= 256 {
+    if peer >= SEATS {
         return l;
     }
     l[peer as usize] = 0;
     l
 }
 
-// The hashes of eight blocks, four words each.
-pub fn hashes_from(first: u32) -> [u64; 32]
-    ensures { result ≡ hashes 8 first }
+// The hashes of blocks from a first one on, four words each.
+#[tactic(auto, unfolding(crate::specs::Given::hashes))]
+pub fn hashes_from<const WORDS: usize>(first: u32) -> [u64; WORDS]
+    ensures { result ≡ hashes WORDS (WORDS / 4) first }
 {
-    let mut l: [u64; 32] = [0; 32];
-    for i in 0..8 {
+    let mut l: [u64; WORDS] = [0; WORDS];
+    for i in 0..WORDS / 4 {
         l[4 * i + 3] = (first as u64) + (i as u64);
     }
     l
 }
 
-// Heights have 32 bits.
+// Heights have 32 bits. The low ones are kept, where `u32::try_from` would refuse a number above.
 pub fn height_of(n: u64) -> u32
     ensures { result ≡ height_of n }
 {
@@ -239,34 +237,19 @@ pub fn height_after(first: u32, n: u64) -> u32
     height_of((first as u64) + n)
 }
 
-pub fn at_most(n: usize, most: usize) -> usize
-    ensures { (result ≡ lesser n most) × (result ≤ most) }
-{
-    if n <= most {
-        return n;
-    }
-    most
-}
-
 // The chain's hashes from block 0 on, of 64 blocks.
 pub fn chain() -> [u64; 256]
-    ensures { result ≡ chain 64 }
+    ensures { result ≡ hashes 256 64 0 }
 {
-    let mut l: [u64; 256] = [0; 256];
-    for i in 0..64 {
-        l[4 * i + 3] = i as u64;
-    }
-    l
+    hashes_from(0)
 }
 
 // How many words of it are lent with a tip; it has no more than 64 blocks.
+#[tactic(auto, unfolding(crate::specs::Given::words_to))]
 pub fn words_to(tip: u32) -> usize
     ensures { (result ≡ words_to tip) × (result ≤ 256) }
 {
-    if tip <= 63 {
-        return 4 * (tip as usize + 1);
-    }
-    256
+    4 * (tip as usize + 1).min(64)
 }
 
 // ---- what is kept of a call
@@ -275,28 +258,17 @@ pub fn words_to(tip: u32) -> usize
 fn height_at(heights: &[u32], place: usize) -> u32
     ensures { result ≡ get_or heights.now place 0 }
 {
-    if place >= heights.len() {
-        return 0;
-    }
-    heights[place]
-}
-
-fn last_place(count: usize) -> usize
-    ensures { result ≡ count - 1 }
-{
-    if count == 0 {
-        return 0;
-    }
-    count - 1
+    heights.get(place).copied().unwrap_or(0)
 }
 
 // A plan of so many blocks, whose heights stand in the list.
+#[tactic(auto, unfolding(crate::specs::Kept::plan_of))]
 fn plan_of(count: u64, next: u64, heights: &[u32]) -> Plan
     ensures { result ≡ plan_of count next heights.now }
 {
     let n = count as usize;
     let first = height_at(heights, 0);
-    let last = height_at(heights, last_place(n));
+    let last = height_at(heights, n.saturating_sub(1));
     let after = height_of(next);
     Plan {
         count: n,
@@ -307,102 +279,115 @@ fn plan_of(count: u64, next: u64, heights: &[u32]) -> Plan
 }
 
 // What a call that plans came to. A refused one makes no plan.
-pub fn planned(a: Result<NextRequest, Refusal>, heights: &[u32]) -> Plan
+#[tactic(auto, unfolding(crate::specs::Kept::plan_of))]
+pub fn planned(a: Result<NextRequest, Refusal>, heights: &[u32]) -> Option<Plan>
     ensures { result ≡ planned a heights.now }
 {
-    match a {
-        Ok(
-            NextRequest {
-                request: Some(Request { count, next_height }),
-                ..
-            },
-        ) => plan_of(count, next_height, heights),
-        _ => plan_of(0, 0, heights),
-    }
+    let request = a.ok()?.request?;
+    Some(plan_of(request.count, request.next_height, heights))
 }
 
-// Whether a block came by a call that was accepted: its body, or by another way.
-fn came(call: usize, refuses: bool) -> bool
-    ensures { result ≡ came call refuses }
+// Whether a block comes by the call, where it is accepted: its body, or by another way.
+fn came(call: Call) -> bool
+    ensures { result ≡ came call }
 {
-    ((call == 3) | (call == 7)) & !refuses
+    matches!(call, Call::MarkReceivedFrom | Call::ReleasePending)
 }
 
-// Whether four words fit behind the first n.
-fn fits_behind(n: usize, len: usize) -> bool
-    ensures { result ≡ leb (n + 4) len }
-{
-    if len < 4 {
-        return false;
-    }
-    if n > len - 4 {
-        return false;
-    }
-    true
+// The hashes of the blocks that are staged, four words each, the first three 0. There is room for 64.
+#[derive(Drop)]
+pub struct Staged {
+    list: [u64; 256],
+    len: usize,
 }
 
-// A block that came is staged, while there is room: its hash goes behind the first n words of the list, which are blank from there on. Answers how many words there are.
-pub fn stage(staged: &mut [u64], n: usize, s: Step, said: Said) -> usize
-    ensures { (staged.new ≡ staged_after s said n staged.old) × (result ≡ words_after s said n staged.old) }
-{
-    let block = came(s.call, said.refuses);
-    let room = fits_behind(n, staged.len());
-    if block & room {
-        staged[n + 3] = s.first as u64;
-        return n + 4;
+impl Model for Staged {
+    ghost Value = { List ℕ };
+
+    ghost view = { λ s. take s.len s.list };
+
+    ghost invariant = { λ s. s.len ≤ 256 };
+}
+
+impl Staged {
+    pub fn new() -> Self
+        ensures { result ≡ [] }
+    {
+        Staged {
+            list: [0; 256],
+            len: 0,
+        }
     }
-    n
+
+    pub fn words(&self) -> &[u64]
+        ensures { result.now ≡ self.now }
+    {
+        &self.list[..self.len]
+    }
+
+    // A block that came by an accepted call is staged, while there is room.
+    pub fn stage(&mut self, s: Step, said: Result<Said, Refusal>)
+        ensures { self.new ≡ staged_after s said self.old }
+    {
+        let n = self.len;
+        if came(s.call) && said.is_ok() && n <= 252 {
+            self.list[n..n + 4].copy_from_slice(&[0, 0, 0, s.first as u64]);
+            self.len = n + 4;
+        }
+    }
 }
 
 // ---- the line that is written of a call
 
 // Of more than eight only eight are named: a race is over eight.
 fn last_of(first: u32, count: u32) -> u64
-    ensures { result ≡ first + (lesser count 8 - 1) }
+    ensures { result ≡ last_of first count }
 {
-    let named = at_most(count as usize, 8);
-    if named == 0 {
-        return first as u64;
+    (first as u64) + (count.min(8) as u64).saturating_sub(1)
+}
+
+impl Span {
+    // So many blocks.
+    fn of(count: u64, first: u64, last: u64) -> Self
+        ensures { result ≡ span_of count first last }
+    {
+        Span {
+            first: (count > 0).then_some(first),
+            last: (count > 1).then_some(last),
+        }
     }
-    (first as u64) + ((named - 1) as u64)
+}
+
+fn names_plan(call: Call) -> bool
+    ensures { result ≡ names_plan call }
+{
+    matches!(call, Call::MarkRequested | Call::NextPeerRequest)
 }
 
 // The blocks that a call names; one that plans, or marks what was planned, names those of the plan.
-fn named(s: Step, p: Plan) -> Span
+#[tactic(auto, unfolding(crate::specs::Given::named))]
+fn named(s: Step, p: Option<Plan>) -> Span
     ensures { result ≡ named s p }
 {
-    let call = s.call;
-    if (call == 1) | (call == 15) {
-        return Span {
-            count: p.count as u64,
-            first: p.first as u64,
-            last: p.last as u64,
-        };
+    if !names_plan(s.call) {
+        return Span::of(s.count as u64, s.first as u64, last_of(s.first, s.count));
     }
-    let first = s.first;
-    let count = s.count;
-    let last = last_of(first, count);
-    Span {
-        count: count as u64,
-        first: first as u64,
-        last,
+    match p {
+        Some(p) => Span::of(p.count as u64, p.first as u64, p.last as u64),
+        None => Span::of(0, 0, 0),
     }
 }
 
-fn call_of(s: Step, p: Plan) -> Call
-    ensures { result ≡ call_of s p }
+#[tactic(auto, unfolding(crate::specs::Given::made))]
+fn made(s: Step, p: Option<Plan>) -> Made
+    ensures { result ≡ made s p }
 {
-    let peer = s.peer;
     let n = named(s, p);
-    let count = n.count;
-    Call {
+    Made {
         time: s.time,
-        name: s.call,
-        peered: peer > 0,
-        peer,
-        blocks: count > 0,
+        call: s.call,
+        peer: (s.peer > 0).then_some(s.peer),
         first: n.first,
-        ranged: count > 1,
         last: n.last,
     }
 }
@@ -415,24 +400,24 @@ fn after_of(
     ensures { result ≡ after_of pending bytes share }
 {
     After {
-        pending: value(pending),
-        bytes: value(bytes),
-        share: value(share),
+        pending: pending.unwrap_or(0),
+        bytes: bytes.unwrap_or(0),
+        share: share.unwrap_or(0),
     }
 }
 
 // A call, its answer, and what the window says after it.
 pub fn row_of(
     s: Step,
-    p: Plan,
-    said: Said,
+    p: Option<Plan>,
+    said: Result<Said, Refusal>,
     pending: Result<u64, Refusal>,
     bytes: Result<u64, Refusal>,
     share: Result<u64, Refusal>,
 ) -> [u8; 81]
-    ensures { result ≡ row (call_of s p) said (after_of pending bytes share) }
+    ensures { result ≡ row (made s p) said (after_of pending bytes share) }
 {
-    let c = call_of(s, p);
+    let m = made(s, p);
     let a = after_of(pending, bytes, share);
-    lines::rows::row(c, said, a)
+    lines::rows::row(m, said, a)
 }

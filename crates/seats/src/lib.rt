@@ -12,54 +12,54 @@ ghost use Rattle.model.specs.Layout.{decode};
 ghost use Rattle.laws.specs.Tables.{with_starts, with_bodies, with_racers, seat_reset, kept_seats};
 ghost use Rattle.records.specs.Places.{stored};
 
-use model::at;
+use model::{PerSeat, Words, at};
 
 // ---- one seat
 
-pub fn start_of(words: &[u64], seat: usize) -> u64
-    requires { (length words.now ≡ 4096) × (seat < 256) }
+pub fn start_of(words: &Words, seat: usize) -> u64
+    requires { seat < 256 }
     ensures { result ≡ get_or (decode words.now).starts seat 0 }
 {
     words[at::STARTS + seat]
 }
 
-pub fn body_of(words: &[u64], seat: usize) -> u64
-    requires { (length words.now ≡ 4096) × (seat < 256) }
+pub fn body_of(words: &Words, seat: usize) -> u64
+    requires { seat < 256 }
     ensures { result ≡ get_or (decode words.now).bodies seat 0 }
 {
     words[at::BODIES + seat]
 }
 
-pub fn key_of(words: &[u64], seat: usize) -> u64
-    requires { (length words.now ≡ 4096) × (seat < 256) }
+pub fn key_of(words: &Words, seat: usize) -> u64
+    requires { seat < 256 }
     ensures { result ≡ get_or (decode words.now).keys seat 0 }
 {
     words[at::KEYS + seat]
 }
 
-pub fn racer_of(words: &[u64], seat: usize) -> u64
-    requires { (length words.now ≡ 4096) × (seat < 256) }
+pub fn racer_of(words: &Words, seat: usize) -> u64
+    requires { seat < 256 }
     ensures { result ≡ get_or (decode words.now).racers seat 0 }
 {
     words[at::RACERS + seat]
 }
 
-pub fn set_start(words: &mut [u64], seat: usize, start: u64)
-    requires { (length words.old ≡ 4096) × (seat < 256) }
+pub fn set_start(words: &mut Words, seat: usize, start: u64)
+    requires { seat < 256 }
     ensures { decode words.new ≡ with_starts (set (decode words.old).starts seat start) (decode words.old) }
 {
     column::store(&mut words[at::STARTS..at::BODIES], seat, start);
 }
 
-pub fn set_body(words: &mut [u64], seat: usize, body: u64)
-    requires { (length words.old ≡ 4096) × (seat < 256) }
+pub fn set_body(words: &mut Words, seat: usize, body: u64)
+    requires { seat < 256 }
     ensures { decode words.new ≡ with_bodies (set (decode words.old).bodies seat body) (decode words.old) }
 {
     column::store(&mut words[at::BODIES..at::KEYS], seat, body);
 }
 
-pub fn set_racer(words: &mut [u64], seat: usize, racer: u64)
-    requires { (length words.old ≡ 4096) × (seat < 256) }
+pub fn set_racer(words: &mut Words, seat: usize, racer: u64)
+    requires { seat < 256 }
     ensures { decode words.new ≡ with_racers (set (decode words.old).racers seat racer) (decode words.old) }
 {
     column::store(&mut words[at::RACERS..at::HEAD], seat, racer);
@@ -99,13 +99,13 @@ fn body_reset(left: Option<u64>, body: u64) -> u64
 // `seat_reset`: an entry of the owner, asked at `removed`, has gone, and `left` is the oldest of those left. By `reset_in` of
 // state_queue it is `reset_owner_queue_start`.
 pub fn reset_owner_queue_start(
-    words: &mut [u64],
+    words: &mut Words,
     owner: usize,
     removed: u64,
     clock: u64,
     left: Option<u64>,
 )
-    requires { (length words.old ≡ 4096) × ((owner < 256) × ((clock ≤ max_clock) × (removed ≤ max_clock))) }
+    requires { (owner < 256) × (clock ≤ max_clock) × (removed ≤ max_clock) }
     ensures { decode words.new ≡ seat_reset owner removed clock (stored left) (decode words.old) }
 {
     let start = start_of(words, owner);
@@ -116,7 +116,7 @@ pub fn reset_owner_queue_start(
     set_body(words, owner, b);
 }
 
-// `start_noted`
+// `start_noted`, on the word as it is stored: an Option of it would be made and stored again.
 fn noted(clock: u64, start: u64) -> u64
     requires { clock ≤ max_clock }
     ensures { result ≡ start_noted clock start }
@@ -128,8 +128,8 @@ fn noted(clock: u64, start: u64) -> u64
 }
 
 // `owner_downloading_since.entry(seat).or_insert(clock)`
-pub fn note_start(words: &mut [u64], seat: usize, clock: u64)
-    requires { (length words.old ≡ 4096) × ((seat < 256) × (clock ≤ max_clock)) }
+pub fn note_start(words: &mut Words, seat: usize, clock: u64)
+    requires { (seat < 256) × (clock ≤ max_clock) }
     ensures { decode words.new ≡ with_starts (set (decode words.old).starts seat (start_noted clock (get_or (decode words.old).starts seat 0))) (decode words.old) }
 {
     let start = start_of(words, seat);
@@ -138,8 +138,8 @@ pub fn note_start(words: &mut [u64], seat: usize, clock: u64)
 }
 
 // `owner_last_body_at.insert(seat, clock)`
-pub fn note_body(words: &mut [u64], seat: usize, clock: u64)
-    requires { (length words.old ≡ 4096) × ((seat < 256) × (clock ≤ max_clock)) }
+pub fn note_body(words: &mut Words, seat: usize, clock: u64)
+    requires { (seat < 256) × (clock ≤ max_clock) }
     ensures { decode words.new ≡ with_bodies (set (decode words.old).bodies seat (suc clock)) (decode words.old) }
 {
     set_body(words, seat, clock + 1);
@@ -160,21 +160,20 @@ fn count_present(col: &[u64]) -> u64
 }
 
 // `active_downloading_peers`
-pub fn active_downloading_peers(words: &[u64]) -> u64
-    requires { length words.now ≡ 4096 }
+pub fn active_downloading_peers(words: &Words) -> u64
     ensures { result ≡ active_downloading_peers (decode words.now).starts }
 {
     count_present(&words[at::STARTS..at::BODIES])
 }
 
 // How many racers there are.
-pub fn racers_left(words: &[u64]) -> u64
-    requires { length words.now ≡ 4096 }
+pub fn racers_left(words: &Words) -> u64
     ensures { result ≡ count present (decode words.now).racers }
 {
     count_present(&words[at::RACERS..at::HEAD])
 }
 
+// By the word, as the flags are C's: nonzero keeps.
 fn kept_word(flag: u64, word: u64) -> u64
     ensures { result ≡ cond (not (eqb flag 0)) word 0 }
 {
@@ -195,23 +194,20 @@ fn keep_flagged(col: &mut [u64], flags: &[u64])
 }
 
 // `kept_seats`: starts and last bodies, entries or none.
-pub fn keep_seats(words: &mut [u64], flags: &[u64])
-    requires { (length words.old ≡ 4096) × (length flags.now ≡ 256) }
+pub fn keep_seats(words: &mut Words, flags: &PerSeat)
     ensures { decode words.new ≡ kept_seats flags.now (decode words.old) }
 {
     keep_flagged(&mut words[at::STARTS..at::BODIES], flags);
     keep_flagged(&mut words[at::BODIES..at::KEYS], flags);
 }
 
-pub fn keep_racers(words: &mut [u64], flags: &[u64])
-    requires { (length words.old ≡ 4096) × (length flags.now ≡ 256) }
+pub fn keep_racers(words: &mut Words, flags: &PerSeat)
     ensures { decode words.new ≡ with_racers (keep_seats (flagged flags.now) 0 (decode words.old).racers) (decode words.old) }
 {
     keep_flagged(&mut words[at::RACERS..at::HEAD], flags);
 }
 
-pub fn clear_racers(words: &mut [u64])
-    requires { length words.old ≡ 4096 }
+pub fn clear_racers(words: &mut Words)
     ensures { decode words.new ≡ with_racers no_seats (decode words.old) }
 {
     column::clear_from(&mut words[at::RACERS..at::HEAD], 0);

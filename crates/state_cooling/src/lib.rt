@@ -1,16 +1,16 @@
 // Peers that were found unresponsive, in words that hold a window. Contracts as in `state`.
 #![tactic(auto)]
 
-ghost use Rattle.std.specs.Prelude.{◌≡◌, ◌<◌, ◌≤◌, length};
+ghost use Rattle.std.specs.Prelude.{◌≡◌, ◌<◌, ◌≤◌};
 ghost use Rattle.model.specs.Numbers.{max_clock, max_seat};
 ghost use Rattle.model.specs.Cooling.{key_of, mark_peer_unresponsive, peer_in_staller_cooldown};
 ghost use Rattle.model.specs.Layout.{window_of};
 ghost use Rattle.laws.specs.Whole.{Whole, Holds};
 
-use model::{at, head};
+use model::{Words, at, head};
 
 // `mark_peer_unresponsive`; a sound window's keys are in range
-pub fn mark_peer_unresponsive(words: &mut [u64], source: usize, clock: u64)
+pub fn mark_peer_unresponsive(words: &mut Words, source: usize, clock: u64)
     requires { Whole words.old × ((source < 256) × ((clock ≤ max_clock) × (key_of source (window_of words.old) ≤ max_seat))) }
     ensures { Holds (mark_peer_unresponsive source clock (window_of words.old)) words.new }
 {
@@ -20,8 +20,8 @@ pub fn mark_peer_unresponsive(words: &mut [u64], source: usize, clock: u64)
 }
 
 // `peer_in_staller_cooldown`
-pub fn in_cooldown(words: &[u64], source: usize, clock: u64) -> bool
-    requires { (length words.now ≡ 4096) × ((source < 256) × ((clock ≤ max_clock) × (key_of source (window_of words.now) ≤ max_seat))) }
+pub fn in_cooldown(words: &Words, source: usize, clock: u64) -> bool
+    requires { (source < 256) × (clock ≤ max_clock) × (key_of source (window_of words.now) ≤ max_seat) }
     ensures { result ≡ peer_in_staller_cooldown source clock (window_of words.now) }
 {
     let cooldown = layout::word_of(words, head::STALLER_COOLDOWN);

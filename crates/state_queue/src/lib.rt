@@ -15,18 +15,18 @@ ghost use Rattle.laws.specs.Whole.{Whole, Holds};
 ghost use Rattle.records.specs.Places.{Finds, stored, floored};
 ghost use Rattle.state_queue.specs.Steps.{entries_put, start_floor};
 
-use model::{Entry, Hash, head};
+use model::{Entry, Hash, PerPlace, PerSeat, Words, head};
 
 // ---- the entries read
 
-pub fn pending_count(words: &[u64]) -> usize
+pub fn pending_count(words: &Words) -> usize
     requires { Whole words.now }
     ensures { (result ≡ length (window_of words.now).queue.pending) × (result ≤ 256) }
 {
     layout::word_of(words, head::COUNT) as usize
 }
 
-pub fn entry_at(words: &[u64], i: usize) -> Entry
+pub fn entry_at(words: &Words, i: usize) -> Entry
     requires { Whole words.now × (i < length (window_of words.now).queue.pending) }
     ensures { result ≡ get_or (window_of words.now).queue.pending i blank }
 {
@@ -34,7 +34,7 @@ pub fn entry_at(words: &[u64], i: usize) -> Entry
 }
 
 // The place of a hash, or else where it would go.
-pub fn find(words: &[u64], h: Hash) -> Result<usize, usize>
+pub fn find(words: &Words, h: Hash) -> Result<usize, usize>
     requires { Whole words.now }
     ensures { Finds h (window_of words.now).queue.pending result }
 {
@@ -42,7 +42,7 @@ pub fn find(words: &[u64], h: Hash) -> Result<usize, usize>
     records::find(words, n, h)
 }
 
-pub fn lowest(words: &[u64]) -> Option<Entry>
+pub fn lowest(words: &Words) -> Option<Entry>
     requires { Whole words.now }
     ensures { result ≡ lowest (window_of words.now).queue.pending }
 {
@@ -50,7 +50,7 @@ pub fn lowest(words: &[u64]) -> Option<Entry>
     records::lowest(words, n)
 }
 
-pub fn at_height(words: &[u64], height: u64) -> Option<Entry>
+pub fn at_height(words: &Words, height: u64) -> Option<Entry>
     requires { Whole words.now }
     ensures { result ≡ at_height height (window_of words.now).queue.pending }
 {
@@ -58,7 +58,7 @@ pub fn at_height(words: &[u64], height: u64) -> Option<Entry>
     records::at_height(words, n, height)
 }
 
-pub fn was_front(words: &[u64], height: u64) -> bool
+pub fn was_front(words: &Words, height: u64) -> bool
     requires { Whole words.now }
     ensures { result ≡ was_front height (window_of words.now).queue.pending }
 {
@@ -66,7 +66,7 @@ pub fn was_front(words: &[u64], height: u64) -> bool
     records::was_front(words, n, height)
 }
 
-pub fn pending_count_for(words: &[u64], owner: u64) -> u64
+pub fn pending_count_for(words: &Words, owner: u64) -> u64
     requires { Whole words.now }
     ensures { result ≡ pending_count_for owner (window_of words.now).queue.pending }
 {
@@ -75,7 +75,7 @@ pub fn pending_count_for(words: &[u64], owner: u64) -> u64
 }
 
 // The owner's oldest, no lower than a floor.
-pub fn oldest_from(words: &[u64], owner: u64, floor: u64) -> Option<u64>
+pub fn oldest_from(words: &Words, owner: u64, floor: u64) -> Option<u64>
     requires { Whole words.now }
     ensures { stored result ≡ floored floor (oldest owner (window_of words.now).queue.pending) }
 {
@@ -86,7 +86,7 @@ pub fn oldest_from(words: &[u64], owner: u64, floor: u64) -> Option<u64>
 // ---- one out, one in, some kept
 
 // The entry at a place goes out. By `without_is` the queue is `without` it, where the place is that of its hash.
-pub fn take_out(words: &mut [u64], at: usize)
+pub fn take_out(words: &mut Words, at: usize)
     requires { Whole words.old × ((at < length (window_of words.old).queue.pending) × ((get_or (window_of words.old).queue.pending at blank).estimate ≤ (window_of words.old).queue.total)) }
     ensures { Holds (entries_put ((window_of words.old).queue.total - (get_or (window_of words.old).queue.pending at blank).estimate) (remove_at at (window_of words.old).queue.pending) (window_of words.old)) words.new }
 {
@@ -101,7 +101,7 @@ pub fn take_out(words: &mut [u64], at: usize)
 }
 
 // An entry goes in at a place. By `put_is` the queue is that of `put`, where the place is the one for its hash.
-pub fn put_at(words: &mut [u64], at: usize, e: Entry)
+pub fn put_at(words: &mut Words, at: usize, e: Entry)
     requires { Whole words.old × ((at ≤ length (window_of words.old).queue.pending) × ((length (window_of words.old).queue.pending < 256) × ((window_of words.old).queue.total + e.estimate ≤ 18446744073709551615))) }
     ensures { Holds (entries_put ((window_of words.old).queue.total + e.estimate) (insert_at at e (window_of words.old).queue.pending) (window_of words.old)) words.new }
 {
@@ -116,8 +116,8 @@ pub fn put_at(words: &mut [u64], at: usize, e: Entry)
 
 // The entries whose mark is 0, which are `count`, stay. By `kept-marks` they are those that `kept` keeps. Where none stays, as where a sweep takes all,
 // no mark is read.
-pub fn keep_entries(words: &mut [u64], marks: &[u64], count: u64, total: u64)
-    requires { Whole words.old × ((length marks.now ≡ 256) × (count ≡ length (keep_by (take (length (window_of words.old).queue.pending) marks.now) (window_of words.old).queue.pending))) }
+pub fn keep_entries(words: &mut Words, marks: &PerPlace, count: u64, total: u64)
+    requires { Whole words.old × (count ≡ length (keep_by (take (length (window_of words.old).queue.pending) marks.now) (window_of words.old).queue.pending)) }
     ensures { Holds (entries_put total (keep_by (take (length (window_of words.old).queue.pending) marks.now) (window_of words.old).queue.pending) (window_of words.old)) words.new }
 {
     if count == 0 {
@@ -146,7 +146,7 @@ fn start_floor(start: u64, removed: u64) -> u64
 
 // `reset_owner_queue_start`: an entry of the owner, asked at `removed`, has gone. The oldest that is left is sought only down to the floor: in most windows
 // another entry was asked together with the one that went, and the first of them ends the search.
-pub fn reset_owner_queue_start(words: &mut [u64], owner: usize, removed: u64, clock: u64)
+pub fn reset_owner_queue_start(words: &mut Words, owner: usize, removed: u64, clock: u64)
     requires { Whole words.old × ((owner < 256) × ((clock ≤ max_clock) × (removed ≤ max_clock))) }
     ensures { Holds (with_queue (reset_owner_queue_start owner removed clock (window_of words.old).queue) (window_of words.old)) words.new }
 {
@@ -157,7 +157,7 @@ pub fn reset_owner_queue_start(words: &mut [u64], owner: usize, removed: u64, cl
 }
 
 // `started`
-pub fn note_start(words: &mut [u64], owner: usize, clock: u64)
+pub fn note_start(words: &mut Words, owner: usize, clock: u64)
     requires { Whole words.old × ((owner < 256) × (clock ≤ max_clock)) }
     ensures { Holds (with_queue (started owner clock (window_of words.old).queue) (window_of words.old)) words.new }
 {
@@ -165,7 +165,7 @@ pub fn note_start(words: &mut [u64], owner: usize, clock: u64)
 }
 
 // `body_noted`
-pub fn note_body(words: &mut [u64], source: usize, clock: u64)
+pub fn note_body(words: &mut Words, source: usize, clock: u64)
     requires { Whole words.old × ((source < 256) × (clock ≤ max_clock)) }
     ensures { Holds (body_noted source clock (window_of words.old)) words.new }
 {
@@ -173,8 +173,8 @@ pub fn note_body(words: &mut [u64], source: usize, clock: u64)
 }
 
 // Starts and last bodies of the seats that have a flag.
-pub fn keep_seats(words: &mut [u64], flags: &[u64])
-    requires { Whole words.old × (length flags.now ≡ 256) }
+pub fn keep_seats(words: &mut Words, flags: &PerSeat)
+    requires { Whole words.old }
     ensures { Holds (with_queue (queue (window_of words.old).queue.total (window_of words.old).queue.pending (keep_seats (flagged flags.now) 0 (window_of words.old).queue.starts) (keep_seats (flagged flags.now) 0 (window_of words.old).queue.bodies)) (window_of words.old)) words.new }
 {
     seats::keep_seats(words, flags);
@@ -182,7 +182,7 @@ pub fn keep_seats(words: &mut [u64], flags: &[u64])
 
 // ---- the high waters
 
-pub fn set_high(words: &mut [u64], blocks: u64, bytes: u64)
+pub fn set_high(words: &mut Words, blocks: u64, bytes: u64)
     requires { Whole words.old }
     ensures { Holds (with_high (record { blocks = blocks; bytes = bytes }) (window_of words.old)) words.new }
 {

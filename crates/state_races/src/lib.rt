@@ -14,11 +14,11 @@ ghost use Rattle.states.specs.Fits.{probe_fits};
 ghost use Rattle.model.specs.declared.Hash.{Hash};
 ghost use Rattle.state_races.specs.Hedges.{pushed, Plan, Lists};
 
-use model::{Hash, PrefixProbe, head, sizes};
+use model::{Hash, PerSeat, PrefixProbe, Words, head, sizes};
 
 // ---- hedged fronts
 
-pub fn hedged_count(words: &[u64]) -> u64
+pub fn hedged_count(words: &Words) -> u64
     requires { Whole words.now }
     ensures { result ≡ length (window_of words.now).races.hedged }
 {
@@ -26,8 +26,8 @@ pub fn hedged_count(words: &[u64]) -> u64
 }
 
 // Whether a hash is among the n that the head has from word k on.
-fn is_listed(words: &[u64], k: usize, n: usize, h: Hash) -> bool
-    requires { (length words.now ≡ 4096) × (k + 4 * n ≤ 512) }
+fn is_listed(words: &Words, k: usize, n: usize, h: Hash) -> bool
+    requires { k + 4 * n ≤ 512 }
     ensures { (hs : List Hash) → Lists k n hs (decode words.now) → result ≡ any (λ x. same x h) hs }
 {
     (0..n).any(|i| {
@@ -36,7 +36,7 @@ fn is_listed(words: &[u64], k: usize, n: usize, h: Hash) -> bool
     })
 }
 
-pub fn is_hedged(words: &[u64], h: Hash) -> bool
+pub fn is_hedged(words: &Words, h: Hash) -> bool
     requires { Whole words.now }
     ensures { result ≡ any (λ x. same x h) (window_of words.now).races.hedged }
 {
@@ -55,7 +55,7 @@ fn pushed_list(n: u64, g: Hash, h: Hash) -> [u64; 9]
 }
 
 // One more hedged front.
-pub fn push_hedged(words: &mut [u64], h: Hash)
+pub fn push_hedged(words: &mut Words, h: Hash)
     requires { Whole words.old × (length (window_of words.old).races.hedged < 2) }
     ensures { Holds (with_hedged ((window_of words.old).races.hedged ++ (h ∷ [])) (window_of words.old)) words.new }
 {
@@ -67,29 +67,28 @@ pub fn push_hedged(words: &mut [u64], h: Hash)
 
 // ---- the probe
 
-pub fn get_probe(words: &[u64]) -> Option<PrefixProbe>
-    requires { length words.now ≡ 4096 }
+pub fn get_probe(words: &Words) -> Option<PrefixProbe>
     ensures { result ≡ (window_of words.now).races.probe }
 {
     states::load_probe(words)
 }
 
-pub fn planned_count(words: &[u64]) -> u64
+pub fn planned_count(words: &Words) -> u64
     requires { Whole words.now }
     ensures { result ≡ length (window_of words.now).races.planned }
 {
     layout::word_of(words, head::PROBE_COUNT)
 }
 
-pub fn planned_hash(words: &[u64], i: usize) -> Hash
-    requires { (length words.now ≡ 4096) × (i < length (window_of words.now).races.planned) }
+pub fn planned_hash(words: &Words, i: usize) -> Hash
+    requires { i < length (window_of words.now).races.planned }
     ensures { result ≡ get_or (window_of words.now).races.planned i (hash 0 0 0 0) }
 {
     let k = head::PROBE_HASHES + sizes::HASH_WORDS * i;
     layout::hash_of(words, k)
 }
 
-pub fn is_planned(words: &[u64], h: Hash) -> bool
+pub fn is_planned(words: &Words, h: Hash) -> bool
     requires { Whole words.now }
     ensures { result ≡ any (λ x. same x h) (window_of words.now).races.planned }
 {
@@ -98,7 +97,7 @@ pub fn is_planned(words: &[u64], h: Hash) -> bool
 }
 
 // The probe's own words, its hashes and racers as they were.
-pub fn set_probe(words: &mut [u64], x: Option<PrefixProbe>)
+pub fn set_probe(words: &mut Words, x: Option<PrefixProbe>)
     requires { Whole words.old × probe_fits x }
     ensures { Holds (with_probe x (window_of words.old).races.planned (window_of words.old).races.racers (window_of words.old)) words.new }
 {
@@ -107,7 +106,7 @@ pub fn set_probe(words: &mut [u64], x: Option<PrefixProbe>)
 }
 
 // The probe with n hashes, four words each and 0 after them; its racers as they were.
-pub fn set_plan(words: &mut [u64], x: Option<PrefixProbe>, n: u64, list: &[u64])
+pub fn set_plan(words: &mut Words, x: Option<PrefixProbe>, n: u64, list: &[u64])
     requires { Whole words.old × (probe_fits x × Plan n list.now) }
     ensures { Holds (with_probe x (take n (hashes_in list.now)) (window_of words.old).races.racers (window_of words.old)) words.new }
 {
@@ -117,21 +116,20 @@ pub fn set_plan(words: &mut [u64], x: Option<PrefixProbe>, n: u64, list: &[u64])
 
 // ---- racers
 
-pub fn racers_left(words: &[u64]) -> u64
-    requires { length words.now ≡ 4096 }
+pub fn racers_left(words: &Words) -> u64
     ensures { result ≡ count present (window_of words.now).races.racers }
 {
     seats::racers_left(words)
 }
 
-pub fn set_racer(words: &mut [u64], seat: usize, racer: u64)
+pub fn set_racer(words: &mut Words, seat: usize, racer: u64)
     requires { Whole words.old × (seat < 256) }
     ensures { Holds (with_probe (window_of words.old).races.probe (window_of words.old).races.planned (set (window_of words.old).races.racers seat racer) (window_of words.old)) words.new }
 {
     seats::set_racer(words, seat, racer);
 }
 
-pub fn clear_racers(words: &mut [u64])
+pub fn clear_racers(words: &mut Words)
     requires { Whole words.old }
     ensures { Holds (with_probe (window_of words.old).races.probe (window_of words.old).races.planned no_seats (window_of words.old)) words.new }
 {
@@ -139,15 +137,15 @@ pub fn clear_racers(words: &mut [u64])
 }
 
 // The racers whose seats have a flag.
-pub fn keep_racers(words: &mut [u64], flags: &[u64])
-    requires { Whole words.old × (length flags.now ≡ 256) }
+pub fn keep_racers(words: &mut Words, flags: &PerSeat)
+    requires { Whole words.old }
     ensures { Holds (with_probe (window_of words.old).races.probe (window_of words.old).races.planned (keep_seats (flagged flags.now) 0 (window_of words.old).races.racers) (window_of words.old)) words.new }
 {
     seats::keep_racers(words, flags);
 }
 
 // `without_probe`
-pub fn clear_probe(words: &mut [u64])
+pub fn clear_probe(words: &mut Words)
     requires { Whole words.old }
     ensures { Holds (without_probe (window_of words.old)) words.new }
 {

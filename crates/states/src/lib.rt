@@ -1,14 +1,17 @@
 // The states in the head of the 4,096 lent words: stall episode, stuck frontier, cold front, observation, probe. Each is read as the value that the
-// definitions read there, and written back whole. A time that is written is at most a clock.
+// definitions read there, and written back whole. A time that is written is at most a clock. Stall episode and stuck frontier differ in the name of a
+// field: they are two structs of the Rust, and one for both would have the name of neither.
 #![tactic(auto)]
 
-ghost use Rattle.std.specs.Prelude.{◌≡◌, length};
+ghost use Rattle.std.specs.Prelude.{◌≡◌};
 ghost use Rattle.model.specs.Layout.{decode, word, hash_at, stall_of, stuck_of, cold_of, observation_of, probe_of, stall_words, stuck_words, cold_words, observation_words, probe_words};
 ghost use Rattle.model.specs.Places.{head_stall, head_stall_owner, head_stall_hash, head_stuck, head_stuck_height, head_stuck_hash, head_cold, head_cold_owner, head_cold_other, head_cold_hash, head_observation, head_observation_owner, head_observation_hash, head_probe, head_probe_owner, head_probe_accepted};
 ghost use Rattle.laws.specs.Tables.{with_words};
 ghost use Rattle.states.specs.Fits.{stall_fits, stuck_fits, cold_fits, probe_fits};
 
-use model::{ColdFront, Hash, Observation, PrefixProbe, StallEpisode, StuckFrontier, head, sizes};
+use model::{
+    ColdFront, Hash, Observation, PrefixProbe, StallEpisode, StuckFrontier, Words, head, sizes,
+};
 
 // ---- stall episode
 
@@ -16,18 +19,14 @@ use model::{ColdFront, Hash, Observation, PrefixProbe, StallEpisode, StuckFronti
 fn stall_of(since: u64, owner: u64, h: Hash) -> Option<StallEpisode>
     ensures { result ≡ stall_of since owner h }
 {
-    if since == 0 {
-        return None;
-    }
-    Some(StallEpisode {
+    since.checked_sub(1).map(|since| StallEpisode {
         owner,
         front: h,
-        since: since - 1,
+        since,
     })
 }
 
-pub fn load_stall(words: &[u64]) -> Option<StallEpisode>
-    requires { length words.now ≡ 4096 }
+pub fn load_stall(words: &Words) -> Option<StallEpisode>
     ensures { result ≡ stall_of (word head_stall (decode words.now)) (word head_stall_owner (decode words.now)) (hash_at head_stall_hash (decode words.now)) }
 {
     let since = layout::word_of(words, head::STALL);
@@ -53,8 +52,8 @@ fn stall_list(s: Option<StallEpisode>) -> [u64; sizes::STALL_WORDS]
     }
 }
 
-pub fn store_stall(words: &mut [u64], s: Option<StallEpisode>)
-    requires { (length words.old ≡ 4096) × stall_fits s }
+pub fn store_stall(words: &mut Words, s: Option<StallEpisode>)
+    requires { stall_fits s }
     ensures { decode words.new ≡ with_words head_stall (stall_words s) (decode words.old) }
 {
     let l = stall_list(s);
@@ -67,18 +66,14 @@ pub fn store_stall(words: &mut [u64], s: Option<StallEpisode>)
 fn stuck_of(since: u64, height: u64, h: Hash) -> Option<StuckFrontier>
     ensures { result ≡ stuck_of since height h }
 {
-    if since == 0 {
-        return None;
-    }
-    Some(StuckFrontier {
+    since.checked_sub(1).map(|since| StuckFrontier {
         height,
         front: h,
-        since: since - 1,
+        since,
     })
 }
 
-pub fn load_stuck(words: &[u64]) -> Option<StuckFrontier>
-    requires { length words.now ≡ 4096 }
+pub fn load_stuck(words: &Words) -> Option<StuckFrontier>
     ensures { result ≡ stuck_of (word head_stuck (decode words.now)) (word head_stuck_height (decode words.now)) (hash_at head_stuck_hash (decode words.now)) }
 {
     let since = layout::word_of(words, head::STUCK);
@@ -104,8 +99,8 @@ fn stuck_list(s: Option<StuckFrontier>) -> [u64; sizes::STUCK_WORDS]
     }
 }
 
-pub fn store_stuck(words: &mut [u64], s: Option<StuckFrontier>)
-    requires { (length words.old ≡ 4096) × stuck_fits s }
+pub fn store_stuck(words: &mut Words, s: Option<StuckFrontier>)
+    requires { stuck_fits s }
     ensures { decode words.new ≡ with_words head_stuck (stuck_words s) (decode words.old) }
 {
     let l = stuck_list(s);
@@ -122,16 +117,12 @@ fn cold_of(tag: u64, owner: u64, x: u64, h: Hash) -> ColdFront
         return ColdFront::Idle;
     }
     if tag == 1 {
-        if x == 0 {
-            return ColdFront::Waiting(owner, h, 0);
-        }
-        return ColdFront::Waiting(owner, h, x - 1);
+        return ColdFront::Waiting(owner, h, x.saturating_sub(1));
     }
     ColdFront::Racing(owner, x, h)
 }
 
-pub fn load_cold(words: &[u64]) -> ColdFront
-    requires { length words.now ≡ 4096 }
+pub fn load_cold(words: &Words) -> ColdFront
     ensures { result ≡ cold_of (word head_cold (decode words.now)) (word head_cold_owner (decode words.now)) (word head_cold_other (decode words.now)) (hash_at head_cold_hash (decode words.now)) }
 {
     let tag = layout::word_of(words, head::COLD);
@@ -153,8 +144,8 @@ fn cold_list(s: ColdFront) -> [u64; sizes::COLD_WORDS]
     }
 }
 
-pub fn store_cold(words: &mut [u64], s: ColdFront)
-    requires { (length words.old ≡ 4096) × cold_fits s }
+pub fn store_cold(words: &mut Words, s: ColdFront)
+    requires { cold_fits s }
     ensures { decode words.new ≡ with_words head_cold (cold_words s) (decode words.old) }
 {
     let l = cold_list(s);
@@ -176,8 +167,7 @@ fn observation_of(tag: u64, owner: u64, h: Hash) -> Observation
     Observation::Swept(owner, h)
 }
 
-pub fn load_observation(words: &[u64]) -> Observation
-    requires { length words.now ≡ 4096 }
+pub fn load_observation(words: &Words) -> Observation
     ensures { result ≡ observation_of (word head_observation (decode words.now)) (word head_observation_owner (decode words.now)) (hash_at head_observation_hash (decode words.now)) }
 {
     let tag = layout::word_of(words, head::OBSERVATION);
@@ -197,8 +187,7 @@ fn observation_list(s: Observation) -> [u64; sizes::OBSERVATION_WORDS]
     }
 }
 
-pub fn store_observation(words: &mut [u64], s: Observation)
-    requires { length words.old ≡ 4096 }
+pub fn store_observation(words: &mut Words, s: Observation)
     ensures { decode words.new ≡ with_words head_observation (observation_words s) (decode words.old) }
 {
     let l = observation_list(s);
@@ -211,18 +200,14 @@ pub fn store_observation(words: &mut [u64], s: Observation)
 fn probe_of(started: u64, owner: u64, accepted: u64) -> Option<PrefixProbe>
     ensures { result ≡ probe_of started owner accepted }
 {
-    if started == 0 {
-        return None;
-    }
-    Some(PrefixProbe {
+    started.checked_sub(1).map(|started| PrefixProbe {
         owner,
         accepted,
-        started: started - 1,
+        started,
     })
 }
 
-pub fn load_probe(words: &[u64]) -> Option<PrefixProbe>
-    requires { length words.now ≡ 4096 }
+pub fn load_probe(words: &Words) -> Option<PrefixProbe>
     ensures { result ≡ probe_of (word head_probe (decode words.now)) (word head_probe_owner (decode words.now)) (word head_probe_accepted (decode words.now)) }
 {
     let started = layout::word_of(words, head::PROBE);
@@ -249,8 +234,8 @@ fn probe_list(p: Option<PrefixProbe>, n: u64) -> [u64; 4]
 }
 
 // A probe and the number of its hashes.
-pub fn store_probe(words: &mut [u64], p: Option<PrefixProbe>, n: u64)
-    requires { (length words.old ≡ 4096) × probe_fits p }
+pub fn store_probe(words: &mut Words, p: Option<PrefixProbe>, n: u64)
+    requires { probe_fits p }
     ensures { decode words.new ≡ with_words head_probe (probe_words p n) (decode words.old) }
 {
     let l = probe_list(p, n);

@@ -11,11 +11,11 @@ ghost use Rattle.laws.specs.Whole.{Whole, Holds};
 ghost use Rattle.report_words.specs.Report.{releases_of};
 
 use marks::Forecast;
-use model::{Observation, sizes};
+use model::{Gone, Observation, Words, sizes};
 
 // `effective_owner_timeout`, of the window's own active count.
-pub fn timeout_of(words: &[u64]) -> u64
-    requires { (length words.now ≡ 4096) × (settings_ok (window_of words.now).settings ≡ true) }
+pub fn timeout_of(words: &Words) -> u64
+    requires { settings_ok (window_of words.now).settings ≡ true }
     ensures { result ≡ effective_owner_timeout (active (window_of words.now)) (window_of words.now) }
 {
     let s = state::get_settings(words);
@@ -25,7 +25,7 @@ pub fn timeout_of(words: &[u64]) -> u64
 
 // ---- the sweep
 
-fn swept_marks(words: &[u64], clock: u64) -> [u64; sizes::PLACES]
+fn swept_marks(words: &Words, clock: u64) -> [u64; sizes::PLACES]
     requires { Whole words.now × Sound clock (window_of words.now) }
     ensures { take (length (window_of words.now).queue.pending) result ≡ map (sweep_reason clock (effective_owner_timeout (active (window_of words.now)) (window_of words.now)) (window_of words.now)) (window_of words.now).queue.pending }
 {
@@ -36,8 +36,8 @@ fn swept_marks(words: &[u64], clock: u64) -> [u64; sizes::PLACES]
 }
 
 // `marked_swept`, over the first `n` releases.
-fn marked_swept(gone: &[u64], n: usize, o: Observation) -> Observation
-    requires { (length gone.now ≡ 2304) × (n ≤ 256) }
+fn marked_swept(gone: &Gone, n: usize, o: Observation) -> Observation
+    requires { n ≤ 256 }
     ensures { result ≡ marked_swept (releases_of n gone.now) o }
 {
     match o {
@@ -53,8 +53,8 @@ fn marked_swept(gone: &[u64], n: usize, o: Observation) -> Observation
 }
 
 // `expire_pending`
-pub fn expire_pending(words: &mut [u64], gone: &mut [u64], clock: u64) -> usize
-    requires { Whole words.old × (Sound clock (window_of words.old) × (length gone.old ≡ 2304)) }
+pub fn expire_pending(words: &mut Words, gone: &mut Gone, clock: u64) -> usize
+    requires { Whole words.old × (Sound clock (window_of words.old)) }
     ensures { (result ≤ 256)
         × (Holds (expire_pending clock (window_of words.old)).window words.new)
         × (releases_of result gone.new ≡ (expire_pending clock (window_of words.old)).gone) }
@@ -70,8 +70,8 @@ pub fn expire_pending(words: &mut [u64], gone: &mut [u64], clock: u64) -> usize
 // ---- retirement
 
 // `retire_before`
-pub fn retire_before(words: &mut [u64], gone: &mut [u64], height: u64, clock: u64) -> usize
-    requires { Whole words.old × (Sound clock (window_of words.old) × (length gone.old ≡ 2304)) }
+pub fn retire_before(words: &mut Words, gone: &mut Gone, height: u64, clock: u64) -> usize
+    requires { Whole words.old × (Sound clock (window_of words.old)) }
     ensures { (result ≤ 256)
         × (Holds (retire_before height clock (window_of words.old)).window words.new)
         × (releases_of result gone.new ≡ (retire_before height clock (window_of words.old)).gone) }
@@ -84,7 +84,7 @@ pub fn retire_before(words: &mut [u64], gone: &mut [u64], height: u64, clock: u6
 // ---- the forecast
 
 // `forecast_blocks` and `forecast_bytes`
-pub fn expired_pending_capacity(words: &[u64], clock: u64) -> Forecast
+pub fn expired_pending_capacity(words: &Words, clock: u64) -> Forecast
     requires { Whole words.now × Sound clock (window_of words.now) }
     ensures { (result.blocks ≡ forecast_blocks clock (window_of words.now)) × (result.bytes ≡ forecast_bytes clock (window_of words.now)) }
 {
@@ -94,7 +94,7 @@ pub fn expired_pending_capacity(words: &[u64], clock: u64) -> Forecast
 }
 
 // `peer_has_expired_pending`
-pub fn peer_has_expired_pending(words: &[u64], seat: usize, clock: u64) -> bool
+pub fn peer_has_expired_pending(words: &Words, seat: usize, clock: u64) -> bool
     requires { Whole words.now × (Sound clock (window_of words.now) × (seat < 256)) }
     ensures { result ≡ peer_has_expired_pending seat clock (window_of words.now) }
 {

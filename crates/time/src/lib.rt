@@ -14,7 +14,7 @@ pub fn owner_timeout(spacing: u64, active: u64) -> u64
     requires { (spacing ≤ max_duration) × (active ≤ suc max_seat) }
     ensures { result ≡ owner_timeout spacing active }
 {
-    let others = numbers::minus(active, 1);
+    let others = active.saturating_sub(1);
     spacing * (TIMEOUT_BASE + others) / 2
 }
 
@@ -37,7 +37,7 @@ pub fn expiry_limit(now: u64, timeout: u64) -> u64
     if timeout == 0 {
         return u64::MAX;
     }
-    numbers::minus(now + 1, timeout)
+    (now + 1).saturating_sub(timeout)
 }
 
 // `expired`, by the limit of a moment and a timeout.

@@ -4,14 +4,14 @@
 
 ghost use Rattle.std.specs.Prelude.{◌≤◌, length, IfOk};
 
-use recorded::compare::{compared, is_same};
+use recorded::compare::compared;
 use recorded::input::read_numbers;
 use recorded::runs::{put_runs, record_at};
+use recorded::stream::Place;
 use recorded::{Record, Same};
 use replayed::acts::perform;
 use std::io;
 use std::io::Read;
-use std::num::wrapping_add_u64;
 
 #[derive(Clone, Copy)]
 struct Count {
@@ -21,7 +21,11 @@ struct Count {
 
 // One call.
 fn one(words: &mut [u64], expected: &mut [u64], numbers: &[u64], r: Record) -> Same {
-    let s = perform(words, numbers, r.kind, r.args);
+    let a = Place {
+        numbers,
+        at: r.args,
+    };
+    let s = perform(words, r.number, a);
     put_runs(expected, numbers, r.runs, r.next);
     compared(s, words, expected, numbers, r)
 }
@@ -33,8 +37,8 @@ fn unless(rt: &impl Print, same: bool, part: &str) -> io::Result<()> {
     print!(rt; "{part}")
 }
 
-fn name(rt: &impl Print, number: u64, kind: u64, q: Same) -> io::Result<()> {
-    print!(rt; "record {number}, call {kind} differs in")?;
+fn name(rt: &impl Print, nth: u64, call: u64, q: Same) -> io::Result<()> {
+    print!(rt; "record {nth}, call {call} differs in")?;
     unless(rt, q.refusal, " refusal")?;
     unless(rt, q.answer, " answer")?;
     unless(rt, q.count, " count")?;
@@ -46,12 +50,12 @@ fn name(rt: &impl Print, number: u64, kind: u64, q: Same) -> io::Result<()> {
 }
 
 // A call that differs is named, and counted.
-fn told(rt: &impl Print, differing: u64, number: u64, kind: u64, q: Same) -> io::Result<u64> {
-    if is_same(q) {
+fn told(rt: &impl Print, differing: u64, nth: u64, call: u64, q: Same) -> io::Result<u64> {
+    if q.is_all() {
         return Ok(differing);
     }
-    name(rt, number, kind, q)?;
-    Ok(wrapping_add_u64(differing, 1))
+    name(rt, nth, call, q)?;
+    Ok(differing.wrapping_add(1))
 }
 
 // Calls at most.
@@ -66,12 +70,11 @@ fn replay(
     let mut differing: u64 = 0;
     let mut at: u64 = 0;
     for calls in 0..MOST {
-        let r = record_at(numbers, at);
-        if r.kind == 0 {
+        let Some(r) = record_at(Place { numbers, at }) else {
             return Ok(Count { calls, differing });
-        }
+        };
         let q = one(words, expected, numbers, r);
-        differing = told(rt, differing, calls + 1, r.kind, q)?;
+        differing = told(rt, differing, calls + 1, r.number, q)?;
         at = r.next;
     }
     Ok(Count {
@@ -80,18 +83,14 @@ fn replay(
     })
 }
 
-fn blank() -> [u64; 4096] {
-    [0; 4096]
-}
-
 fn replayed(rt: &impl Print, numbers: &[u64]) -> io::Result<Count> {
-    let mut words = blank();
-    let mut expected = blank();
+    let mut words: [u64; 4096] = [0; 4096];
+    let mut expected: [u64; 4096] = [0; 4096];
     replay(rt, &mut words, &mut expected, numbers)
 }
 
 fn report(rt: &impl Print, c: Count) -> io::Result<()> {
-    let same = std::num::wrapping_sub_u64(c.calls, c.differing);
+    let same = c.calls.wrapping_sub(c.differing);
     let differing = c.differing;
     println!(rt; "{same} calls as recorded, {differing} differ")
 }
@@ -120,16 +119,13 @@ fn run(rt: &(impl Print + Input), bytes: &mut [u8], numbers: &mut [u64]) -> io::
     report(rt, c)
 }
 
-fn room() -> [u8; 600000] {
-    [0; 600000]
-}
-
-fn number_room() -> [u64; 200000] {
-    [0; 200000]
+// A room of its own function: where so long an array is written out in `main`, the check's stack is not enough.
+fn room<T: Copy, const N: usize>(x: T) -> [T; N] {
+    [x; N]
 }
 
 fn main(rt: HostRuntime) -> io::Result<()> {
-    let mut bytes = room();
-    let mut numbers = number_room();
+    let mut bytes: [u8; 600_000] = room(0);
+    let mut numbers: [u64; 200_000] = room(0);
     run(&rt, &mut bytes, &mut numbers)
 }

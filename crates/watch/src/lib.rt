@@ -42,22 +42,11 @@ fn stuck_still(
 ) -> Option<StuckFrontier>
     ensures { result ≡ stuck_still s height h busy clock }
 {
-    let Some(
-        StuckFrontier {
-            height: n,
-            front: x,
-            since,
-        },
-    ) = s
-    else {
+    let Some(f) = s else {
         return stuck_anew(height, h, busy, clock);
     };
-    if hash::same_both(n, height, x, h) {
-        return Some(StuckFrontier {
-            height: n,
-            front: x,
-            since,
-        });
+    if hash::same_both(f.height, height, f.front, h) {
+        return s;
     }
     stuck_anew(height, h, busy, clock)
 }
@@ -66,36 +55,21 @@ fn stuck_still(
 fn evicted_by(s: Option<StuckFrontier>, height: u64, h: Hash, bound: u64, clock: u64) -> Stepped
     ensures { result ≡ stepped height (evicted_by s h bound clock) }
 {
-    let Some(
-        StuckFrontier {
-            height: n,
-            front: x,
-            since,
-        },
-    ) = s
-    else {
+    let Some(f) = s else {
         return Stepped {
             stuck: None,
             answer: Blocked::NoDecision,
         };
     };
-    let suppressed = numbers::minus(clock, since);
+    let suppressed = clock.saturating_sub(f.since);
     if suppressed < bound {
         return Stepped {
-            stuck: Some(StuckFrontier {
-                height: n,
-                front: x,
-                since,
-            }),
+            stuck: s,
             answer: Blocked::NoDecision,
         };
     }
     Stepped {
-        stuck: Some(StuckFrontier {
-            height: n,
-            front: x,
-            since: clock,
-        }),
+        stuck: Some(StuckFrontier { since: clock, ..f }),
         answer: Blocked::EvictStaged(height, h, suppressed),
     }
 }
@@ -157,19 +131,11 @@ pub fn blocks(next: u64, staged: u64, highest: Option<u64>, e: Entry, b: Setting
 pub fn stalled_since(s: Option<StallEpisode>, e: Entry, clock: u64) -> u64
     ensures { result ≡ stalled_since s e clock }
 {
-    let Some(
-        StallEpisode {
-            owner,
-            front,
-            since,
-        },
-    ) = s
-    else {
+    let Some(x) = s else {
         return clock;
     };
-    let h = e.hash;
-    if hash::same_both(owner, e.owner, front, h) {
-        return since;
+    if hash::same_both(x.owner, e.owner, x.front, e.hash) {
+        return x.since;
     }
     clock
 }

@@ -3,8 +3,8 @@
 
 ghost use Rattle.std.specs.Prelude.{◌≡◌, []};
 ghost use Rattle.model.specs.Refusals.{queries};
-ghost use Rattle.model.specs.Queries.{reads, perhaps, source_values, probe_values, capacity_values, preferred_peer, probe_plan, probe_start, front_interval_ewma_ms, asks_owner, asks_queue_start, asks_compute_capacity, asks_probe_offered, pending_len, pending_bytes, asks_expired_capacity, stall_timeout, max_pending_blocks, min_peers_for_fanout, fanout_active, pending_high_water, stalling_peer, peer_inflight, active_peers, decay_floor, request_cursor, ewma_block_bytes, asks_request_capacity, asks_contains, asks_count_for, asks_downloading, owner_timeout, asks_hedge_offered, asks_has_expired, asks_cooldown};
-ghost use Rattle.model.specs.Perform.{says, perform};
+ghost use Rattle.model.specs.Queries.{reads, perhaps, source_values, probe_values, preferred_peer, probe_plan, probe_start, front_interval_ewma_ms, asks_owner, asks_queue_start, asks_compute_capacity, asks_probe_offered, pending_len, pending_bytes, asks_expired_capacity, stall_timeout, max_pending_blocks, min_peers_for_fanout, fanout_active, pending_high_water, stalling_peer, peer_inflight, active_peers, decay_floor, request_cursor, ewma_block_bytes, asks_request_capacity, asks_contains, asks_count_for, asks_downloading, owner_timeout, asks_hedge_offered, asks_has_expired, asks_cooldown};
+ghost use Rattle.model.specs.Perform.{perform};
 ghost use Rattle.model.specs.Says.{number_says, pair_says, perhaps_says, perhaps_pair_says, truth_says};
 ghost use Rattle.model.specs.Lists.{pad};
 ghost use Rattle.plans.specs.Answers.{planned_part, plan_answer_says};
@@ -16,7 +16,7 @@ use plans::PlanAnswer;
 pub fn pending_len(words: &[u64]) -> Result<u64, Refusal>
     ensures { number_says result ≡ (perform (queries (reads pending_len)) words.now []).answer }
 {
-    admission::refused_by(words, true)?;
+    let words = admission::admitted(words, None, None, true)?;
     Ok(state_queue::pending_count(words) as u64)
 }
 
@@ -24,7 +24,7 @@ pub fn pending_len(words: &[u64]) -> Result<u64, Refusal>
 pub fn pending_bytes(words: &[u64]) -> Result<u64, Refusal>
     ensures { number_says result ≡ (perform (queries (reads pending_bytes)) words.now []).answer }
 {
-    admission::refused_by(words, true)?;
+    let words = admission::admitted(words, None, None, true)?;
     Ok(state::get_total(words))
 }
 
@@ -32,7 +32,7 @@ pub fn pending_bytes(words: &[u64]) -> Result<u64, Refusal>
 pub fn effective_peer_inflight(words: &[u64]) -> Result<u64, Refusal>
     ensures { number_says result ≡ (perform (queries (reads peer_inflight)) words.now []).answer }
 {
-    admission::refused_by(words, true)?;
+    let words = admission::admitted(words, None, None, true)?;
     Ok(queries::effective_peer_inflight(words))
 }
 
@@ -40,7 +40,7 @@ pub fn effective_peer_inflight(words: &[u64]) -> Result<u64, Refusal>
 pub fn active_downloading_peers(words: &[u64]) -> Result<u64, Refusal>
     ensures { number_says result ≡ (perform (queries (reads active_peers)) words.now []).answer }
 {
-    admission::refused_by(words, true)?;
+    let words = admission::admitted(words, None, None, true)?;
     Ok(state::active_peers(words))
 }
 
@@ -48,7 +48,7 @@ pub fn active_downloading_peers(words: &[u64]) -> Result<u64, Refusal>
 pub fn stall_decay_floor(words: &[u64]) -> Result<u64, Refusal>
     ensures { number_says result ≡ (perform (queries (reads decay_floor)) words.now []).answer }
 {
-    admission::refused_by(words, true)?;
+    let words = admission::admitted(words, None, None, true)?;
     Ok(queries::stall_decay_floor(words))
 }
 
@@ -56,7 +56,7 @@ pub fn stall_decay_floor(words: &[u64]) -> Result<u64, Refusal>
 pub fn request_cursor(words: &[u64]) -> Result<u64, Refusal>
     ensures { number_says result ≡ (perform (queries (reads request_cursor)) words.now []).answer }
 {
-    admission::refused_by(words, true)?;
+    let words = admission::admitted(words, None, None, true)?;
     Ok(state::get_frontier(words))
 }
 
@@ -64,7 +64,7 @@ pub fn request_cursor(words: &[u64]) -> Result<u64, Refusal>
 pub fn ewma_block_bytes(words: &[u64]) -> Result<u64, Refusal>
     ensures { number_says result ≡ (perform (queries (reads ewma_block_bytes)) words.now []).answer }
 {
-    admission::refused_by(words, true)?;
+    let words = admission::admitted(words, None, None, true)?;
     Ok(state::get_mean(words))
 }
 
@@ -72,7 +72,7 @@ pub fn ewma_block_bytes(words: &[u64]) -> Result<u64, Refusal>
 pub fn pending_count_for(words: &[u64], seat: u64) -> Result<u64, Refusal>
     ensures { number_says result ≡ (perform (queries (asks_count_for seat)) words.now []).answer }
 {
-    admission::refused_by(words, seat <= limits::MAX_SEAT)?;
+    let words = admission::admitted(words, None, None, seat <= limits::MAX_SEAT)?;
     Ok(state_queue::pending_count_for(words, seat))
 }
 
@@ -84,7 +84,7 @@ pub fn has_request_capacity(
 ) -> Result<bool, Refusal>
     ensures { truth_says result ≡ (perform (queries (asks_request_capacity byte_headroom count_headroom)) words.now []).answer }
 {
-    admission::refused_by(words, true)?;
+    let words = admission::admitted(words, None, None, true)?;
     Ok(queries::has_request_capacity(words, byte_headroom, count_headroom))
 }
 
@@ -92,7 +92,7 @@ pub fn has_request_capacity(
 pub fn contains_pending(words: &[u64], h: Hash) -> Result<bool, Refusal>
     ensures { truth_says result ≡ (perform (queries (asks_contains h)) words.now []).answer }
 {
-    admission::refused_by(words, true)?;
+    let words = admission::admitted(words, None, None, true)?;
     Ok(queries::contains_pending(words, h))
 }
 
@@ -100,7 +100,7 @@ pub fn contains_pending(words: &[u64], h: Hash) -> Result<bool, Refusal>
 pub fn is_downloading(words: &[u64], seat: u64) -> Result<bool, Refusal>
     ensures { truth_says result ≡ (perform (queries (asks_downloading seat)) words.now []).answer }
 {
-    admission::refused_by(words, seat <= limits::MAX_SEAT)?;
+    let words = admission::admitted(words, None, None, seat <= limits::MAX_SEAT)?;
     Ok(queries::is_downloading(words, seat as usize))
 }
 
@@ -108,7 +108,7 @@ pub fn is_downloading(words: &[u64], seat: u64) -> Result<bool, Refusal>
 pub fn effective_owner_timeout(words: &[u64]) -> Result<u64, Refusal>
     ensures { number_says result ≡ (perform (queries (reads owner_timeout)) words.now []).answer }
 {
-    admission::refused_by(words, true)?;
+    let words = admission::admitted(words, None, None, true)?;
     Ok(sweep::timeout_of(words))
 }
 
@@ -116,7 +116,7 @@ pub fn effective_owner_timeout(words: &[u64]) -> Result<u64, Refusal>
 pub fn hedge_offered(words: &[u64], seat: u64, h: Hash) -> Result<bool, Refusal>
     ensures { truth_says result ≡ (perform (queries (asks_hedge_offered seat h)) words.now []).answer }
 {
-    admission::refused_by(words, seat <= limits::MAX_SEAT)?;
+    let words = admission::admitted(words, None, None, seat <= limits::MAX_SEAT)?;
     Ok(cold_front::hedge_offered(words, seat, h))
 }
 
@@ -124,7 +124,7 @@ pub fn hedge_offered(words: &[u64], seat: u64, h: Hash) -> Result<bool, Refusal>
 pub fn peer_has_expired_pending(words: &[u64], seat: u64, clock: u64) -> Result<bool, Refusal>
     ensures { truth_says result ≡ (perform (queries (asks_has_expired seat clock)) words.now []).answer }
 {
-    admission::refused_by_at(words, clock, seat <= limits::MAX_SEAT)?;
+    let words = admission::admitted(words, None, Some(clock), seat <= limits::MAX_SEAT)?;
     Ok(sweep::peer_has_expired_pending(words, seat as usize, clock))
 }
 
@@ -132,7 +132,7 @@ pub fn peer_has_expired_pending(words: &[u64], seat: u64, clock: u64) -> Result<
 pub fn peer_in_staller_cooldown(words: &[u64], seat: u64, clock: u64) -> Result<bool, Refusal>
     ensures { truth_says result ≡ (perform (queries (asks_cooldown seat clock)) words.now []).answer }
 {
-    admission::refused_by_at(words, clock, seat <= limits::MAX_SEAT)?;
+    let words = admission::admitted(words, None, Some(clock), seat <= limits::MAX_SEAT)?;
     Ok(state_cooling::in_cooldown(words, seat as usize, clock))
 }
 
@@ -140,7 +140,7 @@ pub fn peer_in_staller_cooldown(words: &[u64], seat: u64, clock: u64) -> Result<
 pub fn pending_high_water(words: &[u64]) -> Result<(u64, u64), Refusal>
     ensures { pair_says result ≡ (perform (queries (reads pending_high_water)) words.now []).answer }
 {
-    admission::refused_by(words, true)?;
+    let words = admission::admitted(words, None, None, true)?;
     let x = state::get_high_blocks(words);
     let y = state::get_high_bytes(words);
     Ok((x, y))
@@ -150,7 +150,7 @@ pub fn pending_high_water(words: &[u64]) -> Result<(u64, u64), Refusal>
 pub fn stalling_peer(words: &[u64]) -> Result<Option<(u64, u64)>, Refusal>
     ensures { perhaps_pair_says result ≡ (perform (queries (reads stalling_peer)) words.now []).answer }
 {
-    admission::refused_by(words, true)?;
+    let words = admission::admitted(words, None, None, true)?;
     Ok(queries::stalling_peer(words))
 }
 
@@ -158,7 +158,7 @@ pub fn stalling_peer(words: &[u64]) -> Result<Option<(u64, u64)>, Refusal>
 pub fn stall_timeout(words: &[u64]) -> Result<u64, Refusal>
     ensures { number_says result ≡ (perform (queries (reads stall_timeout)) words.now []).answer }
 {
-    admission::refused_by(words, true)?;
+    let words = admission::admitted(words, None, None, true)?;
     let p = state::get_pace(words);
     Ok(p.wait)
 }
@@ -167,7 +167,7 @@ pub fn stall_timeout(words: &[u64]) -> Result<u64, Refusal>
 pub fn max_pending_blocks(words: &[u64]) -> Result<u64, Refusal>
     ensures { number_says result ≡ (perform (queries (reads max_pending_blocks)) words.now []).answer }
 {
-    admission::refused_by(words, true)?;
+    let words = admission::admitted(words, None, None, true)?;
     let p = state::get_settings(words);
     Ok(p.max_pending_blocks)
 }
@@ -176,7 +176,7 @@ pub fn max_pending_blocks(words: &[u64]) -> Result<u64, Refusal>
 pub fn min_peers_for_fanout(words: &[u64]) -> Result<u64, Refusal>
     ensures { number_says result ≡ (perform (queries (reads min_peers_for_fanout)) words.now []).answer }
 {
-    admission::refused_by(words, true)?;
+    let words = admission::admitted(words, None, None, true)?;
     let p = state::get_settings(words);
     Ok(p.min_peers_for_fanout)
 }
@@ -185,7 +185,7 @@ pub fn min_peers_for_fanout(words: &[u64]) -> Result<u64, Refusal>
 pub fn fanout_active(words: &[u64]) -> Result<bool, Refusal>
     ensures { truth_says result ≡ (perform (queries (reads fanout_active)) words.now []).answer }
 {
-    admission::refused_by(words, true)?;
+    let words = admission::admitted(words, None, None, true)?;
     let f = state::get_fanout(words);
     Ok(f.engaged)
 }
@@ -194,7 +194,7 @@ pub fn fanout_active(words: &[u64]) -> Result<bool, Refusal>
 pub fn expired_pending_capacity(words: &[u64], clock: u64) -> Result<(u64, u64), Refusal>
     ensures { pair_says result ≡ (perform (queries (asks_expired_capacity clock)) words.now []).answer }
 {
-    admission::refused_by_at(words, clock, true)?;
+    let words = admission::admitted(words, None, Some(clock), true)?;
     let f = sweep::expired_pending_capacity(words, clock);
     Ok((f.blocks, f.bytes))
 }
@@ -218,7 +218,7 @@ fn started_of(p: Option<PrefixProbe>) -> Option<u64>
 pub fn preferred_peer(words: &[u64]) -> Result<Option<u64>, Refusal>
     ensures { perhaps_says result ≡ (perform (queries (reads preferred_peer)) words.now []).answer }
 {
-    admission::refused_by(words, true)?;
+    let words = admission::admitted(words, None, None, true)?;
     Ok(state::get_preferred(words))
 }
 
@@ -226,7 +226,7 @@ pub fn preferred_peer(words: &[u64]) -> Result<Option<u64>, Refusal>
 pub fn pending_owner(words: &[u64], h: Hash) -> Result<Option<u64>, Refusal>
     ensures { perhaps_says result ≡ (perform (queries (asks_owner h)) words.now []).answer }
 {
-    admission::refused_by(words, true)?;
+    let words = admission::admitted(words, None, None, true)?;
     Ok(queries::pending_owner(words, h))
 }
 
@@ -234,7 +234,7 @@ pub fn pending_owner(words: &[u64], h: Hash) -> Result<Option<u64>, Refusal>
 pub fn active_prefix_probe_started_at(words: &[u64]) -> Result<Option<u64>, Refusal>
     ensures { perhaps_says result ≡ (perform (queries (reads probe_start)) words.now []).answer }
 {
-    admission::refused_by(words, true)?;
+    let words = admission::admitted(words, None, None, true)?;
     Ok(started_of(state_races::get_probe(words)))
 }
 
@@ -242,7 +242,7 @@ pub fn active_prefix_probe_started_at(words: &[u64]) -> Result<Option<u64>, Refu
 pub fn front_interval_ewma_ms(words: &[u64]) -> Result<Option<u64>, Refusal>
     ensures { perhaps_says result ≡ (perform (queries (reads front_interval_ewma_ms)) words.now []).answer }
 {
-    admission::refused_by(words, true)?;
+    let words = admission::admitted(words, None, None, true)?;
     let p = state::get_pace(words);
     Ok(perhaps_stored(p.mean))
 }
@@ -251,7 +251,7 @@ pub fn front_interval_ewma_ms(words: &[u64]) -> Result<Option<u64>, Refusal>
 pub fn owner_queue_start(words: &[u64], seat: u64) -> Result<Option<u64>, Refusal>
     ensures { perhaps_says result ≡ (perform (queries (asks_queue_start seat)) words.now []).answer }
 {
-    admission::refused_by(words, seat <= limits::MAX_SEAT)?;
+    let words = admission::admitted(words, None, None, seat <= limits::MAX_SEAT)?;
     let t = state::start_of(words, seat as usize);
     Ok(perhaps_stored(t))
 }
@@ -265,16 +265,15 @@ pub fn compute_request_capacity(
 ) -> Result<Option<(u64, u64)>, Refusal>
     ensures { perhaps_pair_says result ≡ (perform (queries (asks_compute_capacity source byte_headroom count_headroom)) words.now []).answer }
 {
-    admission::refused_by(words, source <= limits::MAX_SEAT)?;
-    let b = queries::compute_request_capacity(words, source, byte_headroom, count_headroom);
-    Ok(b)
+    let words = admission::admitted(words, None, None, source <= limits::MAX_SEAT)?;
+    Ok(queries::compute_request_capacity(words, source, byte_headroom, count_headroom))
 }
 
 // Whether a seat races for this hash in the prefix probe.
 pub fn probe_offered(words: &[u64], source: u64, h: Hash) -> Result<bool, Refusal>
     ensures { truth_says result ≡ (perform (queries (asks_probe_offered source h)) words.now []).answer }
 {
-    admission::refused_by(words, source <= limits::MAX_SEAT)?;
+    let words = admission::admitted(words, None, None, source <= limits::MAX_SEAT)?;
     Ok(probe_plan::probe_offered(words, source, h))
 }
 
@@ -283,11 +282,11 @@ pub fn prefix_probe_plan(words: &[u64]) -> PlanAnswer
     ensures { (plan_answer_says result ≡ (perform (queries (reads probe_plan)) words.now []).answer)
         × (result.hashes ≡ pad 32 0 (planned_part result)) }
 {
-    match admission::refused_by(words, true) {
+    match admission::admitted(words, None, None, true) {
         Err(r) => PlanAnswer {
             plan: Err(r),
             hashes: [0; sizes::PLANNED_WORDS],
         },
-        Ok(()) => probe_hashes::prefix_probe_plan(words),
+        Ok(words) => probe_hashes::prefix_probe_plan(words),
     }
 }

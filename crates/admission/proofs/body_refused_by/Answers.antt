@@ -9,21 +9,21 @@ use Rattle.refusals.specs.Passed.{number_some, passed_on}
 use Rattle.admission.specs.Content.{refused_before, refused_after, body_over, body_fits}
 use Rattle.admission.proofs.body_refused_by.Goals as goal
 
-pub returns-in_err-report_refused_by : goal.returns-in_err-report_refused_by
-returns-in_err-report_refused_by c =
+pub returns-in_err-admitted : goal.returns-in_err-admitted
+returns-in_err-admitted c =
     let a = c.args in
-    let e = c.in_err-report_refused_by.field-0.0 in
+    let e = c.in_err-admitted.field-0.0 in
     rw (passed_on _ e c.from_residual.ensures.1)
-    (refused_before true (at a.clock) a.peers (body_refusal a.bytes) a.words.now a.room (number e) c.in_err-report_refused_by.ensures (number_some e))
+    (refused_before true (at a.clock) a.peers (body_refusal a.bytes) a.words.now a.room (number e) c.in_err-admitted.ensures.refusal (number_some e))
 
 pub returns-then-bytes-gt-MAX_BODY : goal.returns-then-bytes-gt-MAX_BODY
 returns-then-bytes-gt-MAX_BODY c =
     let a = c.args in
     body_over a.bytes (window_of a.words.now) (omega (arith, c.if-bytes-gt-MAX_BODY.true))
-    ∙ refused_after true (at a.clock) a.peers (body_refusal a.bytes) a.words.now a.room 0 c.in_ok-report_refused_by.ensures refl
+    ∙ refused_after true (at a.clock) a.peers (body_refusal a.bytes) a.words.now a.room 0 c.in_ok-admitted.ensures.refusal refl
 
 pub returns : goal.returns
 returns c =
     let a = c.args in
     body_fits a.bytes (window_of a.words.now) (omega (arith, c.if-bytes-gt-MAX_BODY.false))
-    ∙ refused_after true (at a.clock) a.peers (body_refusal a.bytes) a.words.now a.room 0 c.in_ok-report_refused_by.ensures refl
+    ∙ refused_after true (at a.clock) a.peers (body_refusal a.bytes) a.words.now a.room 0 c.in_ok-admitted.ensures.refusal refl

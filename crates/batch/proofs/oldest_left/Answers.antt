@@ -56,19 +56,19 @@ pub bounds-words-i-in-loop-i : goal.bounds-words-i-in-loop-i
 bounds-words-i-in-loop-i c = omega (arith, pending_few c.args.words.now)
 
 pub overflow_add-words : goal.overflow_add-words
-overflow_add-words c = omega (arith, time_le c.args.words.now (c.loop-i.i - 1) (omega arith) c.requires.1.1)
+overflow_add-words c = omega (arith, time_le c.args.words.now (c.loop-i.i - 1) (omega arith) c.requires.1)
 
 pub offset_bounds-left-owner : goal.offset_bounds-left-owner
-offset_bounds-left-owner c = omega (arith, seat_at c.args.words.now (c.loop-i.i - 1) (omega arith) c.requires.1.1)
+offset_bounds-left-owner c = omega (arith, seat_at c.args.words.now (c.loop-i.i - 1) (omega arith) c.requires.1)
 
 pub bounds-left-owner : goal.bounds-left-owner
-bounds-left-owner c = omega (arith, seat_at c.args.words.now (c.loop-i.i - 1) (omega arith) c.requires.1.1)
+bounds-left-owner c = omega (arith, seat_at c.args.words.now (c.loop-i.i - 1) (omega arith) c.requires.1)
 
 pub offset_bounds-left-owner-in-loop-i : goal.offset_bounds-left-owner-in-loop-i
-offset_bounds-left-owner-in-loop-i c = omega (arith, seat_at c.args.words.now (c.loop-i.i - 1) (omega arith) c.requires.1.1)
+offset_bounds-left-owner-in-loop-i c = omega (arith, seat_at c.args.words.now (c.loop-i.i - 1) (omega arith) c.requires.1)
 
 pub bounds-left-owner-in-loop-i : goal.bounds-left-owner-in-loop-i
-bounds-left-owner-in-loop-i c = omega (arith, seat_at c.args.words.now (c.loop-i.i - 1) (omega arith) c.requires.1.1)
+bounds-left-owner-in-loop-i c = omega (arith, seat_at c.args.words.now (c.loop-i.i - 1) (omega arith) c.requires.1)
 
 pub loop-i-preserved : goal.loop-i-preserved
 loop-i-preserved c =
@@ -76,7 +76,7 @@ loop-i-preserved c =
     let ws = c.args.words.now in
     let h : v.i - 1 < length (window_of ws).queue.pending = omega arith in
     let e : v.i ≡ suc (v.i - 1) = omega arith in
-    (simp length-set v.invariant.0, turn ws v.left v.i (v.i - 1) c.sooner_stored.result e h c.requires.1.1 v.invariant.0 c.sooner_stored.ensures v.invariant.1)
+    (simp length-set v.invariant.0, turn ws v.left v.i (v.i - 1) c.sooner_stored.result e h c.requires.1 v.invariant.0 c.sooner_stored.ensures v.invariant.1)
 
 pub returns : goal.returns
 returns c =

@@ -24,28 +24,27 @@ loop-i-init c = (refl, seats_own c.args.words.now)
 
 pub offset_bounds-left-owner : goal.offset_bounds-left-owner
 offset_bounds-left-owner c =
-    let p = c.requires.1.1.1.1.0 in
+    let p = c.requires.2 in
     omega (arith, (in_range c.args.n c.loop-i.i c.args.gone.now (omega arith) p).owner)
 
 pub bounds-left-owner : goal.bounds-left-owner
 bounds-left-owner c =
-    let p = c.requires.1.1.1.1.0 in
+    let p = c.requires.2 in
     omega (arith, (in_range c.args.n c.loop-i.i c.args.gone.now (omega arith) p).owner)
 
 pub reset_owner_queue_start-requires : goal.reset_owner_queue_start-requires
 reset_owner_queue_start-requires c =
-    let r = in_range c.args.n c.loop-i.i c.args.gone.now (omega arith) c.requires.1.1.1.1.0 in
+    let r = in_range c.args.n c.loop-i.i c.args.gone.now (omega arith) c.requires.2 in
     let v = c.loop-i.invariant in
-    (omega (arith, v.0), (omega (arith, r.owner), (omega arith, r.time)))
+    (omega (arith, r.owner), omega arith, r.time)
 
 pub loop-i-preserved : goal.loop-i-preserved
 loop-i-preserved c =
     let v = c.loop-i in
     let a = c.args in
-    let p = c.requires.1.1.1.1 in
-    let r = in_range a.n v.i a.gone.now (omega arith) p.0 in
-    let old = c.left_of-l.ensures ∙ p.1 (get_or a.gone.now (9 * v.i + 4) 0) (omega (arith, r.owner)) in
-    rw add-one (c.reset_owner_queue_start.auto.words ∙ v.invariant.0, reset_turn a.clock v.i (stored c.left_of-l.result) a.gone.now (window_of a.words.now).queue (decode a.words.now) (decode v.words) (decode c.reset_owner_queue_start.new.words) v.invariant.1 old c.reset_owner_queue_start.ensures)
+    let r = in_range a.n v.i a.gone.now (omega arith) c.requires.2 in
+    let old = c.left_of-l.ensures ∙ c.requires.3 (get_or a.gone.now (9 * v.i + 4) 0) (omega (arith, r.owner)) in
+    rw add-one (omega arith, reset_turn a.clock v.i (stored c.left_of-l.result) a.gone.now (window_of a.words.now).queue (decode a.words.now) (decode v.words) (decode c.reset_owner_queue_start.new.words) v.invariant.1 old c.reset_owner_queue_start.ensures)
 
 pub returns : goal.returns
 returns c =

@@ -17,7 +17,7 @@ returns-then-n-eq0 c =
     let g = c.gather-n in
     let n = c.pending_count-count in
     let z = c.if-n-eq0.true in
-    (omega arith, none_holds a.words.now a.marks.now p.0 p.1.1 g.result n.result g.new.gone n.ensures.0 g.ensures.1 (omega (arith, z)), rw (← z) (gone_is a.words.now a.marks.now p.0 p.1.1 g.result n.result g.new.gone n.ensures.0 g.ensures.1))
+    (omega arith, none_holds a.words.now a.marks.now p c.told-marks g.result n.result g.new.gone n.ensures.0 g.ensures.1 (omega (arith, z)), rw (← z) (gone_is a.words.now a.marks.now p c.told-marks g.result n.result g.new.gone n.ensures.0 g.ensures.1))
 
 pub keep_entries-requires : goal.keep_entries-requires
 keep_entries-requires c =
@@ -25,7 +25,7 @@ keep_entries-requires c =
     let p = c.requires in
     let g = c.gather-n in
     let n = c.pending_count-count in
-    (p.0, (p.1.1, left_is a.words.now a.marks.now p.0 p.1.1 g.result n.result g.new.gone n.ensures.0 g.ensures.1))
+    (p, left_is a.words.now a.marks.now p c.told-marks g.result n.result g.new.gone n.ensures.0 g.ensures.1)
 
 pub returns : goal.returns
 unfolding extract_by
@@ -40,4 +40,4 @@ returns c =
     let core = g.new.gone in
     let t = s.ensures.0 ∙ ap (total_after (releases_of g.result core)) c.get_total-total.ensures in
     let f = s.ensures.1 ∙ ap (frontier_after (releases_of g.result core)) c.get_frontier-frontier.ensures in
-    (omega (arith, g.ensures.0, n.ensures.1), extract_holds a.words.now a.marks.now p.0 p.1.1 g.result n.result core n.ensures.0 g.ensures.1 s.result.total s.result.frontier k.new.words x.new.words t f k.ensures x.ensures, gone_is a.words.now a.marks.now p.0 p.1.1 g.result n.result core n.ensures.0 g.ensures.1)
+    (omega (arith, g.ensures.0, n.ensures.1), extract_holds a.words.now a.marks.now p c.told-marks g.result n.result core n.ensures.0 g.ensures.1 s.result.total s.result.frontier k.new.words x.new.words t f k.ensures x.ensures, gone_is a.words.now a.marks.now p c.told-marks g.result n.result core n.ensures.0 g.ensures.1)

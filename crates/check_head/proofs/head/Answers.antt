@@ -15,7 +15,8 @@ unfolding head_fits
 returns-then-not-counts c = sym (ap (λ (q : Bool). q && later_fits c.args.w.now) (sym c.counts.ensures ∙ c.if-not-counts.true))
 
 pub parts-requires : goal.parts-requires
-parts-requires c = let ws = c.args.w.now in (c.requires, counts_clock ws (holds (goal.at.parts-requires c).Else-not-counts))
+parts-requires c = let ws = c.args.w.now in
+    counts_clock ws (holds (goal.at.parts-requires c).Else-not-counts)
 
 pub returns : goal.returns
 unfolding head_fits

@@ -1,57 +1,15 @@
--- `check_window::is_window` meets its contract: each exit is a condition that fails; past it, it holds. Assumes nothing.
-use Rattle.std.proofs.Common.{◌≡◌, true, ◌&&◌, length, sym, ◌∙◌, eq-eqb, ne_eqb}
-use Rattle.facts.specs.Words.{head_fits, unused_zero, records_fit, total_fits, seats_fit, conditions, fits}
-use Rattle.facts.specs.Flags.{fold}
-use Rattle.facts.specs.Head.{head_count, head_clock}
-use Rattle.facts.proofs.Whole.{fits_is}
-use Rattle.check_window.proofs.is_window.Goals.{Else-not-head, Else-not-unused}
+-- `check_window::is_window` meets its contract. Assumes nothing.
+use Rattle.std.proofs.Common.{◌&&◌, length, sym, ap, ◌∙◌, eq-eqb, ne_eqb}
+use Rattle.model.specs.Layout.{is_window}
 use Rattle.check_window.proofs.is_window.Goals as goal
 
--- what holds past each exit
-is_head : (c : Else-not-head) → head_fits c.args.words.now ≡ true
-is_head c = sym c.head.ensures ∙ c.if-not-head.false
-
-is_unused : (c : Else-not-unused) → unused_zero c.args.words.now ≡ true
-is_unused c = sym c.unused.ensures ∙ c.if-not-unused.false
-
-pub returns-then-words-ne-WORDS : goal.returns-then-words-ne-WORDS
-unfolding fits conditions fold
-returns-then-words-ne-WORDS c =
+pub returns-in-None : goal.returns-in-None
+returns-in-None c =
     let w = c.args.words.now in
-    sym (λ j. ne_eqb (length w) 4096 c.if-words-ne-WORDS.true j && head_fits w && unused_zero w && records_fit w && total_fits w && seats_fit w)
-    ∙ fits_is w
+    sym (λ j. ne_eqb (length w) 4096 c.in-None.ensures.cases j && is_window w)
 
-pub returns-then-not-head : goal.returns-then-not-head
-unfolding fits conditions fold
-returns-then-not-head c =
+pub returns-in-Some : goal.returns-in-Some
+returns-in-Some c =
     let w = c.args.words.now in
-    let f = sym c.head.ensures ∙ c.if-not-head.true in
-    sym (λ j. eq-eqb (length w) 4096 c.if-words-ne-WORDS.false j && f j && unused_zero w && records_fit w && total_fits w && seats_fit w)
-    ∙ fits_is w
-
-pub unused-requires : goal.unused-requires
-unused-requires c = (c.if-words-ne-WORDS.false, head_count c.args.words.now (is_head (goal.at.unused-requires c).Else-not-head))
-
-pub returns-then-not-unused : goal.returns-then-not-unused
-unfolding fits conditions fold
-returns-then-not-unused c =
-    let w = c.args.words.now in
-    let f = sym c.unused.ensures ∙ c.if-not-unused.true in
-    let at = c in
-    sym (λ j. eq-eqb (length w) 4096 at.if-words-ne-WORDS.false j && is_head (goal.at.returns-then-not-unused c).Else-not-head j && f j && records_fit w && total_fits w && seats_fit w)
-    ∙ fits_is w
-
-pub records-requires : goal.records-requires
-records-requires c =
-    let at = c in
-    let w = at.args.words.now in
-    (at.if-words-ne-WORDS.false, head_count w (is_head (goal.at.records-requires c).Else-not-head), head_clock w (is_head (goal.at.records-requires c).Else-not-head))
-
-pub returns : goal.returns
-unfolding fits conditions fold
-returns c =
-    let w = c.args.words.now in
-    let at = c in
-    c.records.ensures
-    ∙ sym (λ j. eq-eqb (length w) 4096 at.if-words-ne-WORDS.false j && is_head (goal.at.returns c).Else-not-head j && is_unused (goal.at.returns c).Else-not-unused j && records_fit w && total_fits w && seats_fit w)
-    ∙ fits_is w
+    let a = c.in-Some.ensures.cases in
+    c.holds_window.ensures ∙ ap is_window a.same ∙ sym (λ j. eq-eqb (length w) 4096 a.long j && is_window w)

@@ -2,15 +2,9 @@
 use mathlib.Core.Path.{sym, ap, subst}
 use Rattle.model.specs.Races.{ColdStep}
 use Rattle.model.specs.Layout.{window_of}
-use Rattle.model.specs.Window.{with_cold}
-use Rattle.model.specs.declared.ColdFront.{ColdFront}
-use Rattle.laws.specs.Whole.{Holds}
 use Rattle.states.specs.Fits.{cold_fits}
 use Rattle.cold_front.specs.Cold.{advance_fits}
 use Rattle.cold_front.proofs.advance_cold_front.Goals as goal
 
 pub set_cold-requires : goal.set_cold-requires
 set_cold-requires c = (c.requires.0, subst cold_fits (sym (ap (λ (s : ColdStep). s.cold) c.next_turn-t.ensures)) (advance_fits c.args.clock c.requires.1.0 c.args.next (window_of c.args.words.now) c.requires.1.1))
-
-pub returns : goal.returns
-returns c = (ap (λ (s : ColdStep). s.asks) c.next_turn-t.ensures, subst (λ (x : ColdFront). Holds (with_cold x (window_of c.args.words.now)) c.set_cold.new.words) (ap (λ (s : ColdStep). s.cold) c.next_turn-t.ensures) c.set_cold.ensures)

@@ -13,7 +13,7 @@ use Rattle.delivery_calls.proofs.credit_by.Goals as goal
 pub credit_delivery_from-requires : goal.credit_delivery_from-requires
 credit_delivery_from-requires c =
     let s = c in
-    (s.requires.0, (s.requires.1.0, (s.requires.1.1.0, subst SoundSource c.in-Some.is s.requires.1.1.1)))
+    (s.requires.0, s.requires.1, subst SoundSource c.in-Some.is s.requires.2)
 
 pub returns-in-None : goal.returns-in-None
 unfolding releases_of

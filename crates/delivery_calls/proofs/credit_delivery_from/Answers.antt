@@ -13,13 +13,13 @@ credit_races-n-requires c =
     let s = c in
     let a = s.args in
     let k = c.credit_begun.ensures in
-    (k.whole, (subst (Sound a.clock) (sym k.is) (begun_sound a.h a.source s.requires.1.0), (s.requires.1.1.0, s.requires.1.1.1)))
+    (k.whole, subst (Sound a.clock) (sym k.is) (begun_sound a.h a.source s.requires.1), s.requires.2)
 
 pub progress_by-requires : goal.progress_by-requires
 progress_by-requires c =
     let s = c in
     let a = s.args in
-    let g = subst (Sound a.clock) (sym c.credit_begun.ensures.is) (begun_sound a.h a.source s.requires.1.0) in
+    let g = subst (Sound a.clock) (sym c.credit_begun.ensures.is) (begun_sound a.h a.source s.requires.1) in
     let k = c.credit_races-n.ensures.1 in
     (k.whole, subst (Sound a.clock) (sym k.is) (raced_sound a.h a.source a.clock _ g))
 

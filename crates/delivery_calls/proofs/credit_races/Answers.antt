@@ -6,7 +6,6 @@ use Rattle.laws.specs.Sound.{Sound}
 use Rattle.laws.specs.Whole.{Holds}
 use Rattle.laws.proofs.RacesKept.{resolve_lets}
 use Rattle.delivery_calls.specs.Credits.{hedge_let_go, hedge_let_none}
-use borrow.Author.Rules.{rules}
 use Rattle.delivery_calls.proofs.credit_races.Goals as goal
 
 pub returns-then-n-ne0 : goal.returns-then-n-ne0
@@ -21,7 +20,7 @@ record_prefix_probe_delivery-requires c =
     let s = c in
     let a = s.args in
     let k = c.resolve_cold_front_delivery-n.ensures.1 in
-    (k.whole, (subst (Sound a.clock) (sym k.is) (resolve_lets a.h a.source s.requires.1.0).sound, (search rules, s.requires.1.1.1)))
+    (k.whole, subst (Sound a.clock) (sym k.is) (resolve_lets a.h a.source s.requires.1).sound, s.requires.2)
 
 pub returns : goal.returns
 returns c =

@@ -7,21 +7,20 @@ use Rattle.model.specs.declared.Release.{Release}
 use Rattle.laws.specs.Sound.{Sound}
 use Rattle.laws.specs.Whole.{Holds}
 use Rattle.delivery_calls.specs.Receives.{delivered, removed_sound, taken_window, taken_gone, taken_room}
-use borrow.Author.Rules.{rules}
 use native.Mathlib.Omega.{arith}
 use Rattle.delivery_calls.proofs.take_delivered.Goals as goal
 
 pub remove_pending-requires : goal.remove_pending-requires
 remove_pending-requires c =
     let s = c in
-    (s.requires.0, (s.requires.1.0, omega (arith, s.requires.1.1.0)))
+    (s.requires.0, (s.requires.1, omega (arith, s.told-gone)))
 
 pub credit_by-n-requires : goal.credit_by-n-requires
 credit_by-n-requires c =
     let s = c in
     let a = s.args in
     let k = c.remove_pending.ensures.1 in
-    (k.whole, (subst (Sound a.clock) (sym k.is) (removed_sound a.h a.source a.clock (window_of a.words.now) s.requires.1.0), (search rules, s.requires.1.1.1.0)))
+    (k.whole, subst (Sound a.clock) (sym k.is) (removed_sound a.h a.source a.clock (window_of a.words.now) s.requires.1), s.requires.2)
 
 pub put_delivered-requires : goal.put_delivered-requires
 put_delivered-requires c =
@@ -29,7 +28,7 @@ put_delivered-requires c =
     let by-height-of = c.height_of-height in
     let by-credit-by = c.credit_by-n in
     let a = s.args in
-    (search rules, taken_room a.h a.source a.clock (window_of a.words.now) _ a.front by-height-of.result s.requires.1.1.1.1 by-height-of.ensures c.remove_pending.ensures.1.is by-credit-by.result _ s.requires.1.0 by-credit-by.ensures.2)
+    taken_room a.h a.source a.clock (window_of a.words.now) _ a.front by-height-of.result s.requires.3 by-height-of.ensures c.remove_pending.ensures.1.is by-credit-by.result _ s.requires.1 by-credit-by.ensures.2
 
 pub returns : goal.returns
 returns c =
@@ -39,6 +38,6 @@ returns c =
     let by-credit-by = c.credit_by-n in
     let a = s.args in
     let w = window_of a.words.now in
-    let e = taken_window a.h a.source a.clock w _ a.front by-height-of.result s.requires.1.1.1.1 by-height-of.ensures by-remove-pending.ensures.1.is in
-    let g = taken_gone a.h a.source a.clock w _ a.front by-height-of.result s.requires.1.1.1.1 by-height-of.ensures by-remove-pending.ensures.1.is in
+    let e = taken_window a.h a.source a.clock w _ a.front by-height-of.result s.requires.3 by-height-of.ensures by-remove-pending.ensures.1.is in
+    let g = taken_gone a.h a.source a.clock w _ a.front by-height-of.result s.requires.3 by-height-of.ensures by-remove-pending.ensures.1.is in
     (subst (λ (v : Window). Holds v by-credit-by.new.words) e by-credit-by.ensures.1, c.put_delivered.ensures ∙ ap (λ (l : List Release). delivered a.front ++ l) by-credit-by.ensures.2 ∙ g)

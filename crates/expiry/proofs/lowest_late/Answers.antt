@@ -71,7 +71,7 @@ pub is_late-requires : goal.is_late-requires
 is_late-requires c =
     let at-loop = c in
     let start = at-loop in
-    (start.requires.0, omega arith, start.requires.3 (at-loop.loop-i.i - 1) (omega arith))
+    (omega arith, start.requires.2 (at-loop.loop-i.i - 1) (omega arith))
 
 pub loop-i-preserved-then-is_late : goal.loop-i-preserved-then-is_late
 loop-i-preserved-then-is_late c =
@@ -97,8 +97,7 @@ loop-i-preserved c =
     let a = at-loop.args in
     let l = at-loop.loop-i in
     let p = late a.clock a.timeout (decode a.words.now).starts in
-    let fits = c.shared_slice_known-in-loop-i-1.given (l.i - 1 + 1536) in
-    stays p a.words.now a.count l.i (l.i - 1) (omega arith) (omega arith) (omega arith) l.best l.low c.if-g-low.false (omega (arith, fits)) l.invariant
+    stays p a.words.now a.count l.i (l.i - 1) (omega arith) (omega arith) (omega arith) l.best l.low c.if-g-low.false (omega arith) l.invariant
 
 pub returns : goal.returns
 unfolding decode

@@ -7,7 +7,7 @@ use Rattle.expiry.proofs.owner_timeout.Goals as goal
 pub owner_timeout-requires : goal.owner_timeout-requires
 owner_timeout-requires c =
     let start = c in
-    (rw c.get_settings-b.ensures start.requires.1, rw c.active_peers-active.ensures (active_le start.args.words.now start.requires.0))
+    (rw c.get_settings-b.ensures start.requires, rw c.active_peers-active.ensures (active_le start.args.words.now start.told-words))
 
 pub returns : goal.returns
 unfolding effective_owner_timeout

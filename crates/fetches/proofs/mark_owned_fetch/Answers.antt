@@ -13,9 +13,6 @@ contains_pending-requires c =
     let s = c in
     (s.requires.0, sound_rises s.args.clock (window_of s.args.words.now) s.requires.1.0)
 
-pub shape_of-words-then-contains_pending : goal.shape_of-words-then-contains_pending
-shape_of-words-then-contains_pending c = refl
-
 pub returns-then-contains_pending : goal.returns-then-contains_pending
 returns-then-contains_pending c =
     let s = c in
@@ -24,9 +21,6 @@ returns-then-contains_pending c =
     fetch_done a.owner a.h a.is_staged a.byte_headroom a.count_headroom w a.height a.clock a.words.now held fetch.Held
     (is_held a.owner a.h a.is_staged a.byte_headroom a.count_headroom w (sym c.contains_pending.ensures ∙ c.if-contains_pending.true)) refl (holds_whole a.words.now s.requires.0)
 
-pub shape_of-words-then-is_staged : goal.shape_of-words-then-is_staged
-shape_of-words-then-is_staged c = refl
-
 pub returns-then-is_staged : goal.returns-then-is_staged
 returns-then-is_staged c =
     let s = c in
@@ -34,9 +28,6 @@ returns-then-is_staged c =
     let w = window_of a.words.now in
     fetch_done a.owner a.h a.is_staged a.byte_headroom a.count_headroom w a.height a.clock a.words.now staged fetch.Staged
     (is_staged_there a.owner a.h a.is_staged a.byte_headroom a.count_headroom w (sym c.contains_pending.ensures ∙ c.if-contains_pending.false) c.if-is_staged.true) refl (holds_whole a.words.now s.requires.0)
-
-pub effective_peer_inflight-limit-requires : goal.effective_peer_inflight-limit-requires
-effective_peer_inflight-limit-requires c = c.requires.0.long
 
 pub pending_count_for-owned-requires : goal.pending_count_for-owned-requires
 pending_count_for-owned-requires c = c.requires.0
@@ -52,9 +43,6 @@ ask-requires c =
     let e = is_asked a.owner a.h a.is_staged a.byte_headroom a.count_headroom w (sym c.contains_pending.ensures ∙ c.if-contains_pending.false) c.if-is_staged.false (sym c.has_request_capacity.ensures ∙ c.if-has_request_capacity.true) (less_so c.pending_count_for-owned.ensures c.effective_peer_inflight-limit.ensures c.if-owned-limit.true) in
     (s.requires.0, (s.requires.1.0, (subst (λ (f : Fetching). AskingBy f a.h w) e (asking_is a.owner a.h a.is_staged a.byte_headroom a.count_headroom s.requires.1.0), s.requires.1.1)))
 
-pub shape_of-words-then-owned-limit : goal.shape_of-words-then-owned-limit
-shape_of-words-then-owned-limit c = c.ask.auto.words
-
 pub returns-then-owned-limit : goal.returns-then-owned-limit
 returns-then-owned-limit c =
     let s = c in
@@ -63,9 +51,6 @@ returns-then-owned-limit c =
     let e = is_asked a.owner a.h a.is_staged a.byte_headroom a.count_headroom w (sym c.contains_pending.ensures ∙ c.if-contains_pending.false) c.if-is_staged.false (sym c.has_request_capacity.ensures ∙ c.if-has_request_capacity.true) (less_so c.pending_count_for-owned.ensures c.effective_peer_inflight-limit.ensures c.if-owned-limit.true) in
     fetch_done a.owner a.h a.is_staged a.byte_headroom a.count_headroom w a.height a.clock c.ask.new.words asked fetch.Asked e refl c.ask.ensures
 
-pub shape_of-words-else-owned-limit : goal.shape_of-words-else-owned-limit
-shape_of-words-else-owned-limit c = refl
-
 pub returns-else-owned-limit : goal.returns-else-owned-limit
 returns-else-owned-limit c =
     let s = c in
@@ -73,9 +58,6 @@ returns-else-owned-limit c =
     let w = window_of a.words.now in
     let e = is_over a.owner a.h a.is_staged a.byte_headroom a.count_headroom w (sym c.contains_pending.ensures ∙ c.if-contains_pending.false) c.if-is_staged.false (sym c.has_request_capacity.ensures ∙ c.if-has_request_capacity.true) (le_so c.effective_peer_inflight-limit.ensures c.pending_count_for-owned.ensures c.if-owned-limit.false) in
     fetch_done a.owner a.h a.is_staged a.byte_headroom a.count_headroom w a.height a.clock a.words.now no_capacity fetch.NoCapacity e refl (holds_whole a.words.now s.requires.0)
-
-pub shape_of-words-else-has_request_capacity : goal.shape_of-words-else-has_request_capacity
-shape_of-words-else-has_request_capacity c = refl
 
 pub returns-else-has_request_capacity : goal.returns-else-has_request_capacity
 returns-else-has_request_capacity c =

@@ -1,16 +1,9 @@
 -- `layout::load_fanout` meets its contract. Assumes nothing.
-use native.Mathlib.Omega.{arith}
 use mathlib.Core.Path.{sym}
 use lib.Dec.{eqb}
 use Rattle.laws.specs.Tables.{word_decode}
 use Rattle.layout.specs.Head.{fanout_of}
 use Rattle.layout.proofs.load_fanout.Goals as goal
-
-pub bounds-words-3605 : goal.bounds-words-3605
-bounds-words-3605 c = omega arith
-
-pub bounds-words-3604 : goal.bounds-words-3604
-bounds-words-3604 c = omega arith
 
 pub returns : goal.returns
 unfolding fanout_of

@@ -4,4 +4,4 @@ use Rattle.ledger.specs.Book.{tallied}
 use Rattle.ledger.proofs.tally.Given as goal
 
 abbrev pub invariant-loop-i : goal.invariant-loop-i
-invariant-loop-i l = l.m ≡ tallied l.bytes l.gone l.i l.initial.m
+invariant-loop-i l = l.m ≡ tallied l.gone l.i l.initial.m

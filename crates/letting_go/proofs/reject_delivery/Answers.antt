@@ -2,11 +2,13 @@
 use mathlib.Core.Path.{◌≡◌, refl, subst}
 use mathlib.Core.Bool.{Bool, true}
 use Prim.Native.Nat.{ℕ}
+use Rattle.std.specs.Prelude.{List}
 use native.Mathlib.Omega.{arith}
 use Rattle.model.specs.Numbers.{read_clock}
 use Rattle.model.specs.Refusals.{Change, at, nothing, checking, checks, rejects, window_refusal}
 use Rattle.refusals.specs.Outcomes.{admitted}
-use Rattle.letting_go.specs.Letting.{lets_passed, rejected_few}
+use Rattle.refusals.specs.Arrays.{taken, not_taken, miscounted}
+use Rattle.letting_go.specs.Letting.{lets_in, lets_passed, rejected_few}
 use Rattle.letting_go.proofs.Steps.{lets_step}
 use Rattle.letting_go.proofs.reject_delivery.Goals.{After-source_ok-p, Start}
 use Rattle.letting_go.proofs.reject_delivery.Goals as goal
@@ -16,22 +18,27 @@ abbrev is : Start → Change
 is s = rejects s.args.clock s.args.h s.args.source
 
 -- n is its refusal, with the test of its source as the definition has it
-refused : (c : After-source_ok-p) (n : ℕ) → n ≡ window_refusal (checking true (at c.args.clock) c.source_ok-p.result nothing) c.args.words.now c.args.room
-    → n ≡ window_refusal (checks (rejects c.args.clock c.args.h c.args.source)) c.args.words.now c.args.room
-refused c n e = subst (λ (p : Bool). n ≡ window_refusal (checking true (at c.args.clock) p nothing) c.args.words.now c.args.room) c.source_ok-p.ensures e
+refused : (c : After-source_ok-p) (n : ℕ) (ws : List ℕ) → n ≡ window_refusal (checking true (at c.args.clock) c.source_ok-p.result nothing) ws c.args.room
+    → n ≡ window_refusal (checks (rejects c.args.clock c.args.h c.args.source)) ws c.args.room
+refused c n ws e = subst (λ (p : Bool). n ≡ window_refusal (checking true (at c.args.clock) p nothing) ws c.args.room) c.source_ok-p.ensures e
 
-pub returns-in_err-report_refused_by : goal.returns-in_err-report_refused_by
-returns-in_err-report_refused_by c =
-    let x = is (goal.at.returns-in_err-report_refused_by c).Start in
-    lets_passed _ _ c.from_residual.ensures.1 _ _ x _ _ _ (refused (goal.at.returns-in_err-report_refused_by c).After-source_ok-p _ c.in_err-report_refused_by.ensures)
+pub returns-in_err-words : goal.returns-in_err-words
+returns-in_err-words c =
+    lets_passed _ _ c.from_residual.ensures.1 _ _ (is (goal.at.returns-in_err-words c).Start) _ _ _ (miscounted _ _ _ _ (not_taken c.args.words.now c.as_mut_array.result c.as_mut_array.ensures.cases c.ok_or.ensures.value c.in_err-words.was))
+
+pub returns-in_err-admitted : goal.returns-in_err-admitted
+returns-in_err-admitted c =
+    let x = is (goal.at.returns-in_err-admitted c).Start in
+    lets_in _ _ _ _ _ _ _ _ (taken c.args.words.now c.as_mut_array.result c.as_mut_array.ensures.cases c.ok_or.ensures.value c.in_ok-words.was)
+    (lets_passed _ _ c.from_residual-in_err-admitted.ensures.1 _ _ x _ _ _ (refused (goal.at.returns-in_err-admitted c).After-source_ok-p _ _ c.in_err-admitted.ensures.refusal))
 
 pub reject_delivery-r-requires : goal.reject_delivery-r-requires
 unfolding read_clock
 reject_delivery-r-requires c =
     let here = c in
     let s = here in
-    let g = admitted (checks (is (goal.at.reject_delivery-r-requires c).Start)) _ _ _ (refused (goal.at.reject_delivery-r-requires c).After-source_ok-p _ here.in_ok-report_refused_by.ensures) refl in
-    (g.whole, (g.sound_at, omega (arith, s.requires)))
+    let g = admitted (checks (is (goal.at.reject_delivery-r-requires c).Start)) _ _ _ (refused (goal.at.reject_delivery-r-requires c).After-source_ok-p _ _ here.in_ok-admitted.ensures.refusal) refl in
+    (g.whole, (g.sound_at, omega (arith, c.told-gone)))
 
 pub set_clock-requires : goal.set_clock-requires
 set_clock-requires c = c.reject_delivery-r.ensures.1.whole
@@ -41,5 +48,6 @@ returns c =
     let here = c in
     let s = here in
     let p = c.reject_delivery-r in
-    lets_step (is (goal.at.returns c).Start) _ _ _ (refused (goal.at.returns c).After-source_ok-p _ here.in_ok-report_refused_by.ensures) refl refl _ refl _ 1 s.requires (omega arith) refl _ _ _ _ _
-    (rejected_few _ _ _ _, p.ensures.1, p.ensures.2) (p.ensures.0, c.set_clock.ensures)
+    lets_in _ _ _ _ _ _ _ _ (taken c.args.words.now c.as_mut_array.result c.as_mut_array.ensures.cases c.ok_or.ensures.value c.in_ok-words.was)
+    (lets_step (is (goal.at.returns c).Start) _ _ _ (refused (goal.at.returns c).After-source_ok-p _ _ here.in_ok-admitted.ensures.refusal) refl refl _ refl _ 1 s.told-gone (omega arith) refl _ _ _ _ _
+    (rejected_few _ _ _ _, p.ensures.1, p.ensures.2) (p.ensures.0, c.set_clock.ensures))

@@ -1,34 +1,32 @@
 -- `letting_go::retain_owned_by` meets its contract. Assumes nothing.
 use mathlib.Core.Path.{refl}
 use native.Mathlib.Omega.{arith}
-use borrow.Author.Tests.{eqb-true}
-use lib.ListN.{length}
-use Rattle.model.specs.Layout.{window_of}
-use Rattle.model.specs.Refusals.{Change, checks, retains}
+use Rattle.model.specs.Refusals.{checks, retains}
 use Rattle.laws.specs.Pending.{sound_ranged}
 use Rattle.refusals.specs.Outcomes.{admitted}
 use Rattle.retain.specs.Retains.{sound_roles}
-use Rattle.letting_go.specs.Letting.{lets_passed, lets_timeless, retain_clock}
+use Rattle.refusals.specs.Arrays.{taken, not_taken, miscounted}
+use Rattle.letting_go.specs.Letting.{lets_in, lets_passed, lets_timeless, retain_clock}
 use Rattle.letting_go.proofs.retain_owned_by.Goals as goal
 
-pub returns-in_err-timeless_report_refused_by : goal.returns-in_err-timeless_report_refused_by
-returns-in_err-timeless_report_refused_by c =
-    let x : Change = retains c.args.flags.now in
-    lets_passed _ _ c.from_residual.ensures.1 _ _ x _ _ _ c.in_err-timeless_report_refused_by.ensures
+pub returns-in_err-words : goal.returns-in_err-words
+returns-in_err-words c =
+    lets_passed _ _ c.from_residual.ensures.1 _ _ (retains c.args.flags.now) _ _ _ (miscounted _ _ _ _ (not_taken c.args.words.now c.as_mut_array.result c.as_mut_array.ensures.cases c.ok_or.ensures.value c.in_err-words.was))
+
+pub returns-in_err-flags : goal.returns-in_err-flags
+returns-in_err-flags c =
+    lets_in _ _ _ _ _ _ _ _ (taken c.args.words.now c.as_mut_array.result c.as_mut_array.ensures.cases c.ok_or.ensures.value c.in_ok-words.was)
+    (lets_passed _ _ c.from_residual-in_err-flags.ensures.1 _ _ (retains c.args.flags.now) _ _ _ c.in_err-flags.ensures.refusal)
 
 pub retain_owned_by-lost-requires : goal.retain_owned_by-lost-requires
 retain_owned_by-lost-requires c =
-    let a = c.args in
-    let ws = a.words.now in
-    let w = window_of ws in
-    let x : Change = retains a.flags.now in
-    let g = admitted (checks x) ws a.room 0 c.in_ok-timeless_report_refused_by.ensures refl in
-    (g.whole, (sound_ranged w.clock w g.sound, (sound_roles w.clock w g.sound, (c.requires, eqb-true (length a.flags.now) 256 g.passes.peers))))
+    let g = admitted (checks (retains c.args.flags.now)) _ _ _ c.in_ok-flags.ensures.refusal refl in
+    (g.whole, sound_ranged _ _ g.sound, sound_roles _ _ g.sound)
 
 pub returns : goal.returns
 returns c =
     let a = c.args in
-    let ws = a.words.now in
-    let x : Change = retains a.flags.now in
     let p = c.retain_owned_by-lost in
-    lets_timeless (length a.gone.now) x ws a.room 0 c.in_ok-timeless_report_refused_by.ensures refl refl p.result p.new.gone p.ensures.0 (omega (arith, p.ensures.0)) refl p.new.words p.ensures.1 (retain_clock a.flags.now (window_of ws)) p.ensures.2 _ refl
+    let q = rw c.in_ok-flags.ensures.same at p.ensures in
+    lets_in _ _ _ _ _ _ _ _ (taken c.args.words.now c.as_mut_array.result c.as_mut_array.ensures.cases c.ok_or.ensures.value c.in_ok-words.was)
+    (lets_timeless _ (retains a.flags.now) _ _ 0 c.in_ok-flags.ensures.refusal refl refl p.result p.new.gone q.0 (omega (arith, q.0)) refl p.new.words q.1 (retain_clock a.flags.now _) q.2 _ refl)

@@ -4,7 +4,8 @@ use native.Mathlib.Omega.{arith}
 use Rattle.model.specs.Numbers.{read_clock}
 use Rattle.model.specs.Refusals.{Change, checks, retires}
 use Rattle.refusals.specs.Outcomes.{admitted}
-use Rattle.letting_go.specs.Letting.{lets_passed}
+use Rattle.refusals.specs.Arrays.{taken, not_taken, miscounted}
+use Rattle.letting_go.specs.Letting.{lets_in, lets_passed}
 use Rattle.letting_go.proofs.Steps.{lets_step}
 use Rattle.letting_go.proofs.retire_before.Goals.{Start}
 use Rattle.letting_go.proofs.retire_before.Goals as goal
@@ -13,17 +14,22 @@ use Rattle.letting_go.proofs.retire_before.Goals as goal
 abbrev is : Start → Change
 is s = retires s.args.clock s.args.height
 
-pub returns-in_err-report_refused_by : goal.returns-in_err-report_refused_by
-returns-in_err-report_refused_by c =
-    lets_passed _ _ c.from_residual.ensures.1 _ _ (is (goal.at.returns-in_err-report_refused_by c).Start) _ _ _ c.in_err-report_refused_by.ensures
+pub returns-in_err-words : goal.returns-in_err-words
+returns-in_err-words c =
+    lets_passed _ _ c.from_residual.ensures.1 _ _ (is (goal.at.returns-in_err-words c).Start) _ _ _ (miscounted _ _ _ _ (not_taken c.args.words.now c.as_mut_array.result c.as_mut_array.ensures.cases c.ok_or.ensures.value c.in_err-words.was))
+
+pub returns-in_err-admitted : goal.returns-in_err-admitted
+returns-in_err-admitted c =
+    lets_in _ _ _ _ _ _ _ _ (taken c.args.words.now c.as_mut_array.result c.as_mut_array.ensures.cases c.ok_or.ensures.value c.in_ok-words.was)
+    (lets_passed _ _ c.from_residual-in_err-admitted.ensures.1 _ _ (is (goal.at.returns-in_err-admitted c).Start) _ _ _ c.in_err-admitted.ensures.refusal)
 
 pub retire_before-n-requires : goal.retire_before-n-requires
 unfolding read_clock
 retire_before-n-requires c =
     let at = c in
     let s = at in
-    let g = admitted (checks (is (goal.at.retire_before-n-requires c).Start)) _ _ _ at.in_ok-report_refused_by.ensures refl in
-    (g.whole, (g.sound_at, s.requires))
+    let g = admitted (checks (is (goal.at.retire_before-n-requires c).Start)) _ _ _ at.in_ok-admitted.ensures.refusal refl in
+    (g.whole, g.sound_at)
 
 pub gone_at-requires : goal.gone_at-requires
 gone_at-requires c = c.retire_before-n.ensures.1.whole
@@ -32,5 +38,6 @@ pub returns : goal.returns
 returns c =
     let at = c in
     let s = at in
-    lets_step (is (goal.at.returns c).Start) _ _ _ at.in_ok-report_refused_by.ensures refl refl _ refl _ 256 s.requires (omega arith)
-    refl _ _ _ _ _ c.retire_before-n.ensures c.gone_at.ensures
+    lets_in _ _ _ _ _ _ _ _ (taken c.args.words.now c.as_mut_array.result c.as_mut_array.ensures.cases c.ok_or.ensures.value c.in_ok-words.was)
+    (lets_step (is (goal.at.returns c).Start) _ _ _ at.in_ok-admitted.ensures.refusal refl refl _ refl _ 256 s.told-gone (omega arith)
+    refl _ _ _ _ _ c.retire_before-n.ensures c.gone_at.ensures)

@@ -10,9 +10,6 @@ head_there c =
     let k : c.bucket_at-b.result < 1024 = is_below _ _ c.bucket_at-b.ensures in
     omega (arith, c.requires.0.sized.0)
 
-pub overflow_sub-links : goal.overflow_sub-links
-overflow_sub-links c = omega (arith, c.requires.0.sized.0)
-
 pub returns-then-links-n : goal.returns-then-links-n
 returns-then-links-n c = indexed_full _ _ _ c.requires.0 (omega (arith, c.if-links-n.true))
 
@@ -22,29 +19,11 @@ offset_bounds-index-b c = omega (arith, head_there (goal.at.offset_bounds-index-
 pub bounds-index-b : goal.bounds-index-b
 bounds-index-b c = omega (arith, head_there (goal.at.bounds-index-b c).After-bucket_at-b)
 
-pub overflow_add-index : goal.overflow_add-index
-overflow_add-index c = omega arith
-
-pub offset_bounds-index-n : goal.offset_bounds-index-n
-offset_bounds-index-n c = omega arith
-
-pub bounds-index-n : goal.bounds-index-n
-bounds-index-n c = omega arith
-
-pub overflow_add-index-2 : goal.overflow_add-index-2
-overflow_add-index-2 c = omega arith
-
-pub overflow_cast-index : goal.overflow_cast-index
-overflow_cast-index c = omega (arith, c.requires.0.sized.1)
-
 pub offset_bounds-index-b-2 : goal.offset_bounds-index-b-2
 offset_bounds-index-b-2 c = omega (arith, head_there (goal.at.offset_bounds-index-b-2 c).After-bucket_at-b)
 
 pub bounds-index-b-2 : goal.bounds-index-b-2
 bounds-index-b-2 c = simp length-set (omega (arith, head_there (goal.at.bounds-index-b-2 c).After-bucket_at-b))
-
-pub shape_of-index : goal.shape_of-index
-shape_of-index c = simp length-set
 
 pub returns : goal.returns
 returns c = indexed_more _ _ _ c.requires.0 (omega (arith, c.if-links-n.false)) _ c.bucket_at-b.ensures

@@ -39,7 +39,7 @@ bounds-index-head c =
 pub loop-i-init : goal.loop-i-init
 loop-i-init c =
     let s = (goal.at.loop-i-init c).Start in
-    chain_start (wanted s) (asked s) _ (λ i. (c.shared_slice_known-2-1.given i).fits) _ _ s.requires.0 _
+    chain_start (wanted s) (asked s) _ (λ i. (c.type_inv.list i).fits) _ _ s.requires.0 _
     (ap (λ (b : ℕ). get_or s.args.index.now b 0) c.bucket-head.ensures)
 
 pub is_at-requires : goal.is_at-requires
@@ -79,7 +79,7 @@ pub loop-i-preserved : goal.loop-i-preserved
 loop-i-preserved c =
     let s = (goal.at.loop-i-preserved c).Start in
     let at = c.loop-i in
-    chain_next (wanted s) (asked s) _ (λ i. (c.shared_slice_known-2-1.given i).fits)
+    chain_next (wanted s) (asked s) _ (λ i. (c.type_inv.list i).fits)
     _ _ s.requires.0 at.j c.in-Some.i at.invariant (omega arith) (omega arith) (sym c.is_at.ensures ∙ c.if-is_at.false) _ refl
 
 pub returns : goal.returns

@@ -3,9 +3,6 @@ use Rattle.std.proofs.Common.{sym, arith}
 use Rattle.listed.specs.Laws.{linked_all, linked_full}
 use Rattle.listed.proofs.linked.Goals as goal
 
-pub overflow_sub-links : goal.overflow_sub-links
-overflow_sub-links c = omega arith
-
 pub returns-then-n-links : goal.returns-then-n-links
 returns-then-n-links c = sym (linked_all c.args.n c.args.size (omega (arith, c.if-n-links.true)))
 

@@ -34,11 +34,11 @@ returns-then-waited-wait c =
     let a = c.args in
     let w = window_of a.words.now in
     let wait = c.effective_stall_timeout-wait.ensures ∙ (λ i. effective_stall_timeout (c.get_settings-b.ensures i) (c.get_pace-p.ensures i)) in
-    let test = sym (λ i. ltb (c.minus-waited.ensures i) (wait i)) ∙ lt-ltb _ _ c.if-waited-wait.true in
+    let test = sym (λ i. ltb (c.saturating_sub-waited.ensures i) (wait i)) ∙ lt-ltb _ _ c.if-waited-wait.true in
     stall_goes a.e a.clock w (c.stalled_since-since.ensures ∙ ap (λ (s : Option StallEpisode). stalled_since s a.e a.clock) c.get_stall-s.ensures) test c.set_stall.ensures
 
-pub changed-widened-requires : goal.changed-widened-requires
-changed-widened-requires c =
+pub lend_at_blame-widened-requires : goal.lend_at_blame-widened-requires
+lend_at_blame-widened-requires c =
     let g = c.requires.1 in
     (rw c.get_pace-p.ensures g.pace.mean, rw c.get_pace-p.ensures g.pace.wait, rw c.get_settings-b.ensures (most_le _ g.settings))
 
@@ -52,7 +52,7 @@ returns c =
     let a = c.args in
     let w = window_of a.words.now in
     let wait = c.effective_stall_timeout-wait.ensures ∙ (λ i. effective_stall_timeout (c.get_settings-b.ensures i) (c.get_pace-p.ensures i)) in
-    let test = sym (λ i. ltb (c.minus-waited.ensures i) (wait i)) ∙ le-ltb _ _ c.if-waited-wait.false in
-    let widened = c.changed-widened.ensures ∙ (λ i. wait_widened (c.get_settings-b.ensures i) (c.get_pace-p.ensures i)) in
+    let test = sym (λ i. ltb (c.saturating_sub-waited.ensures i) (wait i)) ∙ le-ltb _ _ c.if-waited-wait.false in
+    let widened = c.lend_at_blame-widened.ensures ∙ (λ i. wait_widened (c.get_settings-b.ensures i) (c.get_pace-p.ensures i)) in
     let h = subst (λ (p : Pace). Holds (mark_peer_unresponsive a.e.owner a.clock (with_pace p (with_stall None w))) c.end_stall.new.words) widened c.end_stall.ensures in
     stall_fires a.e a.clock w (c.stalled_since-since.ensures ∙ ap (λ (s : Option StallEpisode). stalled_since s a.e a.clock) c.get_stall-s.ensures) test h

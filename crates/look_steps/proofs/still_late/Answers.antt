@@ -28,7 +28,7 @@ returns-then-e-owner c =
 pub owner_expired-requires : goal.owner_expired-requires
 owner_expired-requires c =
     let start = c in
-    (start.requires.0.long, spacing_le _ start.requires.1.settings, omega arith, start.requires.1.clock)
+    (spacing_le _ start.requires.1.settings, omega arith, start.requires.1.clock)
 
 pub returns : goal.returns
 returns c =

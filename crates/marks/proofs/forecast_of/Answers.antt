@@ -55,9 +55,6 @@ grows b x y z x' y' m h k l u v = elim (both b) [
   | inr q ↦ let u' = rw q at u in let v' = rw q at v in (omega arith, omega arith)
 ]
 
-pub expiry_limit-limit-requires : goal.expiry_limit-limit-requires
-expiry_limit-limit-requires c = c.requires.1.1.1.1
-
 pub loop-i-init : goal.loop-i-init
 unfolding select sum
 loop-i-init c =
@@ -76,13 +73,13 @@ pub bounds-words-i : goal.bounds-words-i
 bounds-words-i c = omega (arith, pending_few c.args.words.now)
 
 pub overflow_add-owner : goal.overflow_add-owner
-overflow_add-owner c = omega (arith, seat_at c.args.words.now (c.loop-i.i - 1) (omega (arith)) c.requires.1.1.1.0)
+overflow_add-owner c = omega (arith, seat_at c.args.words.now (c.loop-i.i - 1) (omega (arith)) c.requires.2)
 
 pub offset_bounds-words-owner : goal.offset_bounds-words-owner
-offset_bounds-words-owner c = omega (arith, seat_at c.args.words.now (c.loop-i.i - 1) (omega (arith)) c.requires.1.1.1.0)
+offset_bounds-words-owner c = omega (arith, seat_at c.args.words.now (c.loop-i.i - 1) (omega (arith)) c.requires.2)
 
 pub bounds-words-owner : goal.bounds-words-owner
-bounds-words-owner c = omega (arith, seat_at c.args.words.now (c.loop-i.i - 1) (omega (arith)) c.requires.1.1.1.0)
+bounds-words-owner c = omega (arith, seat_at c.args.words.now (c.loop-i.i - 1) (omega (arith)) c.requires.2)
 
 pub overflow_add-i : goal.overflow_add-i
 overflow_add-i c = omega (arith, pending_few c.args.words.now)
@@ -97,7 +94,7 @@ pub counted-f-requires : goal.counted-f-requires
 counted-f-requires c =
     let v = c.loop-i in
     let few = pending_few c.args.words.now in
-    (omega (arith, v.invariant.few), (omega (arith, v.invariant.low), estimate_le c.args.words.now (v.i - 1) (omega arith) c.requires.1.1.1.0))
+    (omega (arith, v.invariant.few), (omega (arith, v.invariant.low), estimate_le c.args.words.now (v.i - 1) (omega arith) c.requires.2))
 
 pub loop-i-preserved : goal.loop-i-preserved
 loop-i-preserved c =
@@ -107,8 +104,8 @@ loop-i-preserved c =
     let j = v.i - 1 in
     let h : j < length (window_of ws).queue.pending = omega arith in
     let e : v.i ≡ suc j = omega arith in
-    let g = c.requires.1.1.1.0 in
-    let t = turn ws v.i j a.clock a.timeout v.f.blocks v.f.bytes c.counted-f.result.blocks c.counted-f.result.bytes c.reached-is.result e h g c.requires.1.1.0 (c.reached-is.ensures a.clock a.timeout c.expiry_limit-limit.ensures) v.invariant.blocks v.invariant.bytes c.counted-f.ensures.0 c.counted-f.ensures.1 in
+    let g = c.requires.2 in
+    let t = turn ws v.i j a.clock a.timeout v.f.blocks v.f.bytes c.counted-f.result.blocks c.counted-f.result.bytes c.reached-is.result e h g c.requires.1 (c.reached-is.ensures a.clock a.timeout c.expiry_limit-limit.ensures) v.invariant.blocks v.invariant.bytes c.counted-f.ensures.0 c.counted-f.ensures.1 in
     let most = grows c.reached-is.result v.f.blocks v.f.bytes (get_or ws (j + 1792) 0) c.counted-f.result.blocks c.counted-f.result.bytes (a.count - v.i) v.invariant.few v.invariant.low (estimate_le ws j h g) c.counted-f.ensures.0 c.counted-f.ensures.1 in
     record { few = omega (arith, most.0); low = omega (arith, most.1); blocks = t.0; bytes = t.1 }
 

@@ -2,14 +2,15 @@
 use mathlib.Core.Path.{◌≡◌, sym, ap, ◌∙◌}
 use mathlib.Core.Bool.{cond, not}
 use mathlib.Core.List.{List}
-use Prim.Native.Nat.{ℕ, ◌+◌, ◌-◌, ◌<◌}
+use Prim.Native.Nat.{ℕ, ◌+◌, ◌<◌}
 use lib.ListN.{length, get_or}
 use lib.Dec.{eqb}
+use Rattle.model.specs.Reasons.{reason_number}
 use Rattle.model.specs.Layout.{blank, window_of}
 use Rattle.model.specs.LettingGo.{lost_reason, flagged}
 use Rattle.laws.specs.Pending.{pending_few, owner_at, seat_at}
 use native.Mathlib.Omega.{arith}
-use Rattle.marks.proofs.Marked.{none_made, one_more, all_made}
+use Rattle.marks.proofs.Marked.{one_more}
 use Rattle.marks.proofs.lost_marks.Goals as goal
 
 -- the mark of the record at i
@@ -18,26 +19,11 @@ marked : (ws fs : List ℕ) (i reason v : ℕ) → i < length (window_of ws).que
 unfolding lost_reason flagged
 marked ws fs i reason v h is = is ∙ ap (λ (n : ℕ). cond (not (eqb (get_or fs n 0) 0)) 0 reason) (sym (owner_at ws i h))
 
-pub loop-i-init : goal.loop-i-init
-loop-i-init c = none_made _ _
-
-pub overflow_add-o : goal.overflow_add-o
-overflow_add-o c = omega (arith, pending_few c.args.words.now)
-
-pub offset_bounds-words-i : goal.offset_bounds-words-i
-offset_bounds-words-i c = omega (arith, pending_few c.args.words.now)
-
-pub bounds-words-i : goal.bounds-words-i
-bounds-words-i c = omega (arith, pending_few c.args.words.now)
-
 pub offset_bounds-flags-owner : goal.offset_bounds-flags-owner
-offset_bounds-flags-owner c = omega (arith, seat_at c.args.words.now c.loop-i.i (omega arith) c.requires.1.1.1)
+offset_bounds-flags-owner c = omega (arith, seat_at c.args.words.now c.loop-i.i (omega arith) c.requires.1)
 
 pub bounds-flags-owner : goal.bounds-flags-owner
-bounds-flags-owner c = omega (arith, seat_at c.args.words.now c.loop-i.i (omega arith) c.requires.1.1.1)
-
-pub offset_bounds-marks-i : goal.offset_bounds-marks-i
-offset_bounds-marks-i c = omega (arith, pending_few c.args.words.now)
+bounds-flags-owner c = omega (arith, seat_at c.args.words.now c.loop-i.i (omega arith) c.requires.1)
 
 pub bounds-marks-i : goal.bounds-marks-i
 bounds-marks-i c = omega (arith, pending_few c.args.words.now)
@@ -48,10 +34,5 @@ loop-i-preserved c =
     let a = c.args in
     let ws = a.words.now in
     let h : v.i < length (window_of ws).queue.pending = omega arith in
-    let is = marked ws a.flags.now v.i a.reason c.lost_mark.result h c.lost_mark.ensures in
+    let is = marked ws a.flags.now v.i (reason_number a.reason) c.lost_mark.result h (c.lost_mark.ensures ∙ ap (cond (not (eqb (get_or a.flags.now (get_or ws (v.i + 1024) 0) 0) 0)) 0) c.from-number.ensures) in
     one_more _ ws v.i c.lost_mark.result v.marks h is v.invariant
-
-pub returns : goal.returns
-returns c =
-    let v = c.loop-i in
-    all_made _ c.args.words.now v.i c.args.count v.marks (omega arith) c.requires.1.0 v.invariant

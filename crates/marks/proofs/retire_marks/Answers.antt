@@ -2,14 +2,14 @@
 use mathlib.Core.Path.{◌≡◌, sym, ap, ◌∙◌}
 use mathlib.Core.Bool.{cond}
 use mathlib.Core.List.{List}
-use Prim.Native.Nat.{ℕ, ◌+◌, ◌-◌, ◌<◌}
+use Prim.Native.Nat.{ℕ, ◌+◌, ◌<◌}
 use lib.ListN.{length, get_or}
 use lib.Dec.{ltb}
 use Rattle.model.specs.Layout.{blank, window_of}
 use Rattle.laws.specs.Batches.{retire_reason}
 use Rattle.laws.specs.Pending.{pending_few, height_at}
 use native.Mathlib.Omega.{arith}
-use Rattle.marks.proofs.Marked.{none_made, one_more, all_made}
+use Rattle.marks.proofs.Marked.{one_more}
 use Rattle.marks.proofs.retire_marks.Goals as goal
 
 -- the mark of the record at i
@@ -17,21 +17,6 @@ marked : (ws : List ℕ) (i height v : ℕ) → i < length (window_of ws).queue.
     → v ≡ retire_reason height (get_or (window_of ws).queue.pending i blank)
 unfolding retire_reason
 marked ws i height v h is = is ∙ ap (λ (n : ℕ). cond (ltb n height) 5 0) (sym (height_at ws i h))
-
-pub loop-i-init : goal.loop-i-init
-loop-i-init c = none_made _ _
-
-pub overflow_add-i : goal.overflow_add-i
-overflow_add-i c = omega (arith, pending_few c.args.words.now)
-
-pub offset_bounds-words-i : goal.offset_bounds-words-i
-offset_bounds-words-i c = omega (arith, pending_few c.args.words.now)
-
-pub bounds-words-i : goal.bounds-words-i
-bounds-words-i c = omega (arith, pending_few c.args.words.now)
-
-pub offset_bounds-marks-i : goal.offset_bounds-marks-i
-offset_bounds-marks-i c = omega (arith, pending_few c.args.words.now)
 
 pub bounds-marks-i : goal.bounds-marks-i
 bounds-marks-i c = omega (arith, pending_few c.args.words.now)
@@ -44,8 +29,3 @@ loop-i-preserved c =
     let h : v.i < length (window_of ws).queue.pending = omega arith in
     let is = marked ws v.i a.height c.retire_mark.result h c.retire_mark.ensures in
     one_more _ ws v.i c.retire_mark.result v.marks h is v.invariant
-
-pub returns : goal.returns
-returns c =
-    let v = c.loop-i in
-    all_made _ c.args.words.now v.i c.args.count v.marks (omega arith) c.requires.1 v.invariant

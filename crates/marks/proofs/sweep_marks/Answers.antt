@@ -10,7 +10,7 @@ use Rattle.model.specs.Time.{expired}
 use Rattle.model.specs.LettingGo.{skipped, sweep_reason}
 use Rattle.laws.specs.Pending.{Ranged, pending_few, owner_at, time_at, seat_at, time_le, start_word, body_word}
 use native.Mathlib.Omega.{arith}
-use Rattle.marks.proofs.Marked.{none_made, one_more, all_made}
+use Rattle.marks.proofs.Marked.{one_more}
 use Rattle.marks.proofs.sweep_marks.Goals as goal
 
 -- the mark of the record at i
@@ -27,50 +27,26 @@ marked ws i clock timeout wait v h a q is =
     let b = sym (ap (λ (k : ℕ). get_or w.queue.bodies k 0) o ∙ body_word ws (get_or ws (i + 1024) 0) (omega (arith, seat_at ws i h a))) in
     is ∙ (λ j. cond (expired clock timeout (s j)) 6 (cond (leb (q j) (clock - t j) && ltb (suc (t j)) (b j)) 7 0))
 
-pub loop-i-init : goal.loop-i-init
-loop-i-init c = none_made _ _
-
-pub overflow_add-o : goal.overflow_add-o
-overflow_add-o c = omega (arith, pending_few c.args.words.now)
-
-pub offset_bounds-words-i : goal.offset_bounds-words-i
-offset_bounds-words-i c = omega (arith, pending_few c.args.words.now)
-
-pub bounds-words-i : goal.bounds-words-i
-bounds-words-i c = omega (arith, pending_few c.args.words.now)
-
 pub overflow_add-start : goal.overflow_add-start
-overflow_add-start c = omega (arith, seat_at c.args.words.now c.loop-i.i (omega arith) c.requires.1.1.1.0)
+overflow_add-start c = omega (arith, seat_at c.args.words.now c.loop-i.i (omega arith) c.requires.2)
 
 pub offset_bounds-words-owner : goal.offset_bounds-words-owner
-offset_bounds-words-owner c = omega (arith, seat_at c.args.words.now c.loop-i.i (omega arith) c.requires.1.1.1.0)
+offset_bounds-words-owner c = omega (arith, seat_at c.args.words.now c.loop-i.i (omega arith) c.requires.2)
 
 pub bounds-words-owner : goal.bounds-words-owner
-bounds-words-owner c = omega (arith, seat_at c.args.words.now c.loop-i.i (omega arith) c.requires.1.1.1.0)
+bounds-words-owner c = omega (arith, seat_at c.args.words.now c.loop-i.i (omega arith) c.requires.2)
 
 pub overflow_add-body : goal.overflow_add-body
-overflow_add-body c = omega (arith, seat_at c.args.words.now c.loop-i.i (omega arith) c.requires.1.1.1.0)
+overflow_add-body c = omega (arith, seat_at c.args.words.now c.loop-i.i (omega arith) c.requires.2)
 
 pub offset_bounds-words-owner-in-loop-i : goal.offset_bounds-words-owner-in-loop-i
-offset_bounds-words-owner-in-loop-i c = omega (arith, seat_at c.args.words.now c.loop-i.i (omega arith) c.requires.1.1.1.0)
+offset_bounds-words-owner-in-loop-i c = omega (arith, seat_at c.args.words.now c.loop-i.i (omega arith) c.requires.2)
 
 pub bounds-words-owner-in-loop-i : goal.bounds-words-owner-in-loop-i
-bounds-words-owner-in-loop-i c = omega (arith, seat_at c.args.words.now c.loop-i.i (omega arith) c.requires.1.1.1.0)
-
-pub overflow_add-i : goal.overflow_add-i
-overflow_add-i c = omega (arith, pending_few c.args.words.now)
-
-pub offset_bounds-words-i-in-loop-i : goal.offset_bounds-words-i-in-loop-i
-offset_bounds-words-i-in-loop-i c = omega (arith, pending_few c.args.words.now)
-
-pub bounds-words-i-in-loop-i : goal.bounds-words-i-in-loop-i
-bounds-words-i-in-loop-i c = omega (arith, pending_few c.args.words.now)
+bounds-words-owner-in-loop-i c = omega (arith, seat_at c.args.words.now c.loop-i.i (omega arith) c.requires.2)
 
 pub sweep_mark-requires : goal.sweep_mark-requires
-sweep_mark-requires c = (c.requires.1.1.1.1, time_le c.args.words.now c.loop-i.i (omega arith) c.requires.1.1.1.0)
-
-pub offset_bounds-marks-i : goal.offset_bounds-marks-i
-offset_bounds-marks-i c = omega (arith, pending_few c.args.words.now)
+sweep_mark-requires c = (c.requires.3, time_le c.args.words.now c.loop-i.i (omega arith) c.requires.2)
 
 pub bounds-marks-i : goal.bounds-marks-i
 bounds-marks-i c = omega (arith, pending_few c.args.words.now)
@@ -81,10 +57,5 @@ loop-i-preserved c =
     let a = c.args in
     let ws = a.words.now in
     let h : v.i < length (window_of ws).queue.pending = omega arith in
-    let is = marked ws v.i a.clock a.timeout a.wait c.sweep_mark.result h c.requires.1.1.1.0 c.requires.1.1.0 c.sweep_mark.ensures in
+    let is = marked ws v.i a.clock a.timeout a.wait c.sweep_mark.result h c.requires.2 c.requires.1 c.sweep_mark.ensures in
     one_more _ ws v.i c.sweep_mark.result v.marks h is v.invariant
-
-pub returns : goal.returns
-returns c =
-    let v = c.loop-i in
-    all_made _ c.args.words.now v.i c.args.count v.marks (omega arith) c.requires.1.0 v.invariant

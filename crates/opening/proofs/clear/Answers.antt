@@ -10,5 +10,5 @@ use Rattle.opening.proofs.clear.Goals as goal
 pub returns : goal.returns
 returns c =
     let s = c in
-    let n : length s.args.words.now - 0 ≡ 4096 = omega (arith, s.requires) in
+    let n : length s.args.words.now - 0 ≡ 4096 = omega (arith, s.told-words) in
     ap decode (c.clear_from.ensures ∙ ap zeros n) ∙ decode_zeros

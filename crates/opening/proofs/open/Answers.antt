@@ -1,4 +1,5 @@
 -- `opening::open` meets its contract. Assumes nothing.
+use native.Mathlib.Omega.{arith}
 use mathlib.Core.Path.{ap, ◌∙◌}
 use mathlib.Core.List.{List, [], ◌∷◌}
 use Prim.Native.Nat.{ℕ}
@@ -16,5 +17,5 @@ returns c =
     let keyed = c.set_keys.ensures ∙ ap (with_keys a.keys.now) c.clear.ensures in
     let counted = c.store_at.ensures ∙ ap (with_words 0 first) keyed in
     let set = c.store_settings.ensures ∙ ap (with_words 8 (settings_words a.b)) counted in
-    let paced = c.store_pace.ensures ∙ (λ i. with_words 22 (pace_list (c.changed-p.ensures i)) (set i)) in
-    opened_holds a.clock a.b a.keys.now _ s.requires.1 (c.store_pace.auto.words ∙ c.store_settings.auto.words ∙ c.store_at.auto.words ∙ c.set_keys.auto.words ∙ c.clear.auto.words ∙ s.requires.0) (paced ∙ opened_in a.clock a.b a.keys.now)
+    let paced = c.store_pace.ensures ∙ (λ i. with_words 22 (pace_list (c.lend_at_opening-p.ensures i)) (set i)) in
+    opened_holds a.clock a.b a.keys.now _ s.told-keys (omega arith) (paced ∙ opened_in a.clock a.b a.keys.now)

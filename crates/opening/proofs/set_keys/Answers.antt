@@ -12,4 +12,4 @@ unfolding decode
 returns c =
     let s = c in
     let ws = s.args.words.now in
-    decode_keys ws c.copy_over.new.dst s.requires.0 (ap length c.copy_over.ensures ∙ s.requires.1) ∙ ap (λ (l : List ℕ). with_keys l (decode ws)) c.copy_over.ensures
+    decode_keys ws c.copy_over.new.dst s.told-words (ap length c.copy_over.ensures ∙ s.told-keys) ∙ ap (λ (l : List ℕ). with_keys l (decode ws)) c.copy_over.ensures

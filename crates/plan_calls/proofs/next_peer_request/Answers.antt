@@ -1,50 +1,54 @@
 -- `plan_calls::next_peer_request` meets its contract. Assumes nothing.
-use mathlib.Core.Path.{refl}
-use lib.ListN.{length}
+use Rattle.std.proofs.Common.{true, ap, refl, length}
 use Rattle.model.specs.Numbers.{read_clock}
-use Rattle.model.specs.Layout.{window_of}
-use Rattle.model.specs.Planning.{Lent, next_peer_request}
-use Rattle.model.specs.Refusals.{Change, checks, plans}
+use Rattle.model.specs.Says.{next_request_answer}
+use Rattle.model.specs.Refusals.{Change, Checks, at, checking, seat_ok, plan_refusal}
 use Rattle.laws.specs.Kept.{seat_le}
 use Rattle.refusals.specs.Outcomes.{admitted}
-use Rattle.planning.specs.Proposes.{lent}
-use Rattle.plan_calls.specs.Plans.{plans_passed, plans_step}
+use Rattle.planning.specs.Proposes.{lent_by, planned_by}
+use Rattle.refusals.specs.Arrays.{taken, not_taken, miscounted}
+use Rattle.plan_calls.specs.Plans.{plans_in, plans_by, plans_passed, plans_step, checks_by, refused_by, proposes_by}
 use Rattle.plan_calls.specs.Refused.{refused_as, lendable}
 use Rattle.plan_calls.proofs.next_peer_request.Goals.{Start}
 use Rattle.plan_calls.proofs.next_peer_request.Goals as goal
 
--- what is lent for the plan
-abbrev lent_at : Start → Lent
-lent_at s =
-    let a = s.args in
-    lent a.chain.now a.tip a.start a.best a.floor a.staged.now a.refused.now a.exhausted a.byte_headroom a.count_headroom
-
 -- the change that it is
 abbrev is : Start → Change
-is s = let a = s.args in plans a.clock a.source (lent_at s) (length a.hashes.now) (length a.heights.now)
+is s = let a = s.args in plans_by a.retry a.clock a.source (lent_by a.given) (length a.hashes.now) (length a.heights.now)
+
+pub returns-in_err-words : goal.returns-in_err-words
+returns-in_err-words c =
+    plans_passed _ _ c.from_residual.ensures.1 next_request_answer _ (is (goal.at.returns-in_err-words c).Start) _ _ _ _ _
+    (miscounted _ _ _ _ (not_taken c.args.words.now c.as_mut_array.result c.as_mut_array.ensures.cases c.ok_or.ensures.value c.in_err-words.was))
 
 pub returns-in_err-refused_by : goal.returns-in_err-refused_by
 returns-in_err-refused_by c =
-    let s = (goal.at.returns-in_err-refused_by c).Start in
-    plans_passed _ _ c.from_residual.ensures.1 _ _ (is s) _ _ _ _ _ (refused_as (lent_at s) _ _ _ _ _ _ _ c.in_err-refused_by.ensures)
+    let a = c.args in
+    let l = lent_by a.given in
+    plans_in _ _ _ _ _ _ _ _ _ _ _ _ (taken c.args.words.now c.as_mut_array.result c.as_mut_array.ensures.cases c.ok_or.ensures.value c.in_ok-words.was)
+    (plans_passed _ _ c.from_residual-in_err-refused_by.ensures.1 next_request_answer _ (is (goal.at.returns-in_err-refused_by c).Start) _ _ _ _ _
+    (refused_by a.retry a.clock a.source l _ _ _ _ _ (refused_as l _ _ _ _ _ _ _ c.in_err-refused_by.ensures)))
 
-pub next_peer_request-p-requires : goal.next_peer_request-p-requires
+pub next_peer_request-answer-requires : goal.next_peer_request-answer-requires
 unfolding read_clock
-next_peer_request-p-requires c =
-    let here = c in
-    let s = here in
-    let a = s.args in
-    let g = admitted (checks (is (goal.at.next_peer_request-p-requires c).Start)) _ _ _ (refused_as (lent_at (goal.at.next_peer_request-p-requires c).Start) _ _ _ _ _ _ _ here.in_ok-refused_by.ensures) refl in
-    let l = lendable (lent_at (goal.at.next_peer_request-p-requires c).Start) (length a.hashes.now) (length a.heights.now) (window_of a.words.now) g.passes.content in
-    (g.whole, g.sound_at, s.requires, l.hashes, l.heights, l.chain, seat_le a.source g.passes.peers)
-
-pub planned_at-requires : goal.planned_at-requires
-planned_at-requires c = c.next_peer_request-p.ensures.1.whole
+next_peer_request-answer-requires c =
+    let a = c.args in
+    let l = lent_by a.given in
+    let n = length a.hashes.now in
+    let m = length a.heights.now in
+    let g = admitted (checking true (at a.clock) (seat_ok a.source) (plan_refusal l n m)) _ _ _ (refused_as l _ _ _ _ _ _ _ c.in_ok-refused_by.ensures) refl in
+    let k = lendable l n m _ g.passes.content in
+    (g.whole, g.sound_at, c.told-gone, k.hashes, k.heights, k.chain, seat_le a.source g.passes.peers)
 
 pub returns : goal.returns
 returns c =
-    let here = c in
-    let s = here in
-    let a = s.args in
-    plans_step _ (is (goal.at.returns c).Start) _ _ _ (refused_as (lent_at (goal.at.returns c).Start) _ _ _ _ _ _ _ here.in_ok-refused_by.ensures) refl refl _ refl s.requires (next_peer_request a.source (lent_at (goal.at.returns c).Start) a.clock (window_of a.words.now)) refl
-    _ _ _ _ _ _ _ _ c.next_peer_request-p.ensures _ c.planned_at.ensures
+    let a = c.args in
+    let l = lent_by a.given in
+    let n = length a.hashes.now in
+    let m = length a.heights.now in
+    let told = checks_by a.retry a.clock a.source l n m in
+    plans_in _ _ _ _ _ _ _ _ _ _ _ _ (taken c.args.words.now c.as_mut_array.result c.as_mut_array.ensures.cases c.ok_or.ensures.value c.in_ok-words.was)
+    (plans_step _ (is (goal.at.returns c).Start) _ _ _ (refused_by a.retry a.clock a.source l n m _ _ _ (refused_as l _ _ _ _ _ _ _ c.in_ok-refused_by.ensures)) refl
+    (ap (λ (k : Checks). k.lets_go) told) a.clock (ap (λ (k : Checks). k.moment) told) c.told-gone
+    (planned_by a.retry a.source l a.clock _) (proposes_by a.retry a.clock a.source l n m _)
+    _ _ _ _ _ _ _ _ c.next_peer_request-answer.ensures c.set_clock.ensures)

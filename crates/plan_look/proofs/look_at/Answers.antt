@@ -11,43 +11,34 @@ use Rattle.model.specs.Planning.{names}
 use Rattle.plan_look.specs.Steps.{look_closed, look_listed, look_refused, look_taken}
 use Rattle.plan_look.proofs.look_at.Goals as goal
 
-pub is_open-requires : goal.is_open-requires
-is_open-requires c = let p = c.requires.0 in (p.whole, (p.rises, p.stages))
-
 pub returns-then-not-is_open : goal.returns-then-not-is_open
 returns-then-not-is_open c =
     let a = c.args in
-    let x = is_there (found a.h (window_of a.words.now).queue.pending) || names a.staged.now a.h in
+    let x = is_there (found a.h (window_of a.words.now).queue.pending) || names a.staged.hashes.now a.h in
     let z = any (same a.h) (take a.n (hashes_in a.hashes.now)) in
-    let q = names a.refused.now a.h in
+    let q = names a.refused.hashes.now a.h in
     look_closed x z q _ c.is_open.ensures (ap not c.if-not-is_open.true)
-
-pub names_first-requires : goal.names_first-requires
-names_first-requires c = c.requires.1
 
 pub returns-then-names_first : goal.returns-then-names_first
 returns-then-names_first c =
     let a = c.args in
-    let x = is_there (found a.h (window_of a.words.now).queue.pending) || names a.staged.now a.h in
+    let x = is_there (found a.h (window_of a.words.now).queue.pending) || names a.staged.hashes.now a.h in
     let z = any (same a.h) (take a.n (hashes_in a.hashes.now)) in
-    let q = names a.refused.now a.h in
+    let q = names a.refused.hashes.now a.h in
     look_listed x z q _ c.is_open.ensures (ap not c.if-not-is_open.false) _ c.names_first.ensures c.if-names_first.true
-
-pub names-requires : goal.names-requires
-names-requires c = c.requires.0.refuses
 
 pub returns-then-names : goal.returns-then-names
 returns-then-names c =
     let a = c.args in
-    let x = is_there (found a.h (window_of a.words.now).queue.pending) || names a.staged.now a.h in
+    let x = is_there (found a.h (window_of a.words.now).queue.pending) || names a.staged.hashes.now a.h in
     let z = any (same a.h) (take a.n (hashes_in a.hashes.now)) in
-    let q = names a.refused.now a.h in
+    let q = names a.refused.hashes.now a.h in
     look_refused x z q _ c.is_open.ensures (ap not c.if-not-is_open.false) _ c.names_first.ensures c.if-names_first.false _ c.names.ensures c.if-names.true
 
 pub returns : goal.returns
 returns c =
     let a = c.args in
-    let x = is_there (found a.h (window_of a.words.now).queue.pending) || names a.staged.now a.h in
+    let x = is_there (found a.h (window_of a.words.now).queue.pending) || names a.staged.hashes.now a.h in
     let z = any (same a.h) (take a.n (hashes_in a.hashes.now)) in
-    let q = names a.refused.now a.h in
+    let q = names a.refused.hashes.now a.h in
     look_taken x z q _ c.is_open.ensures (ap not c.if-not-is_open.false) _ c.names_first.ensures c.if-names_first.false _ c.names.ensures c.if-names.false

@@ -1,14 +1,8 @@
 -- `plan_scan::request_by_scan` meets its contract. Assumes nothing.
 use mathlib.Core.Path.{refl}
-use native.Mathlib.Omega.{arith}
 use Rattle.model.specs.Layout.{window_of}
 use Rattle.plan_scan.specs.Proposes.{scannable, proposes_scanned}
 use Rattle.plan_scan.proofs.request_by_scan.Goals as goal
-
-pub reach-last-requires : goal.reach-last-requires
-reach-last-requires c =
-    let p = c.requires.1 in
-    (p.1.1, omega (arith, p.1.0, p.0.top, p.0.room, c.pending_count-pending.ensures.1))
 
 pub scan_chain-r-requires : goal.scan_chain-r-requires
 scan_chain-r-requires c =
@@ -29,5 +23,5 @@ returns c =
     let a = s.args in
     let p = s.requires.1 in
     let k = c.scan_chain-r in
-    proposes_scanned a.chain.now a.staged.now a.refused.now (window_of a.words.now) a.hashes.now a.heights.now _ _ a.scan a.count a.low _ _ _ _ k.result
-    p.0.frontier p.0.above p.1.0 p.1.1 c.pending_count-pending.ensures.0 refl c.reach-last.ensures refl k.ensures _ _ c.met_none-clean.ensures refl _ c.next_from-next.ensures _ c.non_empty_request.ensures
+    proposes_scanned a.chain.now a.staged.hashes.now a.refused.hashes.now (window_of a.words.now) a.hashes.now a.heights.now _ _ a.scan a.count a.low _ _ _ _ k.result
+    p.0.frontier p.0.above p.1.0 p.1.1 c.pending_count-pending.ensures.0 c.len-held.ensures c.reach-last.ensures refl k.ensures _ _ c.met_none-clean.ensures refl _ c.next_from-next.ensures _ c.non_empty_request.ensures

@@ -10,7 +10,7 @@ pub returns-then-not-scans : goal.returns-then-not-scans
 returns-then-not-scans c =
     let s = c in
     let a = s.args in
-    proposes_over a.chain.now a.staged.now a.refused.now (window_of a.words.now) a.hashes.now a.heights.now a.scan a.count a.low _ _ s.requires.1.frontier
+    proposes_over a.chain.now a.staged.hashes.now a.refused.hashes.now (window_of a.words.now) a.hashes.now a.heights.now a.scan a.count a.low _ _ s.requires.1.frontier
     (sym c.scans.ensures ∙ c.if-not-scans.true) c.held_back-next.ensures c.non_empty_request.ensures
 
 pub request_by_scan-requires : goal.request_by_scan-requires
@@ -18,6 +18,3 @@ request_by_scan-requires c =
     let s = c in
     let a = s.args in
     (s.requires.0, (s.requires.1, scans_both a.scan.height a.scan.tip a.scan.limit _ c.scans.ensures (ap not c.if-not-scans.false)))
-
-pub returns : goal.returns
-returns c = c.request_by_scan.ensures

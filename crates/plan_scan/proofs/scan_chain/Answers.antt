@@ -8,25 +8,20 @@ use Rattle.plan_scan.proofs.scan_chain.Goals as goal
 
 pub loop-height-init : goal.loop-height-init
 loop-height-init c =
-    let s = c in
-    let a = s.args in
-    turning_start (window_of a.words.now).queue.pending a.chain.now a.staged.now a.refused.now a.hashes.now a.heights.now a.index.now a.from a.last a.count a.full a.frontier s.requires.1
+    turning_start _ _ _ _ _ _ _ _ _ _ _ _ c.requires.1
 
 pub returns-then-n-full : goal.returns-then-n-full
 returns-then-n-full c =
-    let s = c in
     let v = c.loop-height in
-    let a = s.args in
-    turning_full (window_of a.words.now).queue.pending a.chain.now a.staged.now a.refused.now a.hashes.now a.heights.now a.index.now a.from a.last a.count a.full a.frontier s.requires.1 v.height v.n v.first v.next v.hashes v.heights v.index v.invariant c.if-n-full.true
+    turning_full _ _ _ _ _ _ _ _ _ _ _ _ c.requires.1 _ _ _ _ _ _ _ v.invariant c.if-n-full.true
 
 -- one more height is looked at
 turned : (c : After-next_past-next)
-    → Turning (window_of c.args.words.now).queue.pending c.args.chain.now c.args.staged.now c.args.refused.now c.args.hashes.now c.args.heights.now c.args.index.now c.args.from c.args.last c.args.count c.args.full c.args.frontier (c.loop-height.height + 1) c.count_after-n.result c.first_after-first.result c.next_past-next.result c.take_at.new.hashes c.take_at.new.heights c.take_at.new.index
+    → Turning (window_of c.args.words.now).queue.pending c.args.chain.now c.args.staged.hashes.now c.args.refused.hashes.now c.args.hashes.now c.args.heights.now c.args.index.now c.args.from c.args.last c.args.count c.args.full c.args.frontier (c.loop-height.height + 1) c.count_after-n.result c.first_after-first.result c.next_past-next.result c.take_at.new.hashes c.take_at.new.heights c.take_at.new.index
 turned c =
     let v = c.loop-height in
-    let a = c.args in
     let t = c.take_at in
-    turning_step (window_of a.words.now).queue.pending a.chain.now a.staged.now a.refused.now a.hashes.now a.heights.now a.index.now a.from a.last a.count a.full a.frontier c.requires.1 v.height v.n v.first v.next v.hashes v.heights v.index v.invariant (omega (arith, c.loop-height-test.true)) c.if-n-full.false _ c.hash_in-h.ensures _ c.look_at-k.ensures
+    turning_step _ _ _ _ _ _ _ _ _ _ _ _ c.requires.1 _ _ _ _ _ _ _ v.invariant (omega (arith, c.loop-height-test.true)) c.if-n-full.false _ c.hash_in-h.ensures _ c.look_at-k.ensures
     t.new.hashes t.new.heights t.new.index t.ensures.0 t.ensures.1.0 t.ensures.1.1 t.auto.hashes t.auto.heights t.auto.index _ _ _ c.count_after-n.ensures c.first_after-first.ensures c.next_past-next.ensures
 
 pub loop-height-preserved : goal.loop-height-preserved
@@ -34,13 +29,10 @@ loop-height-preserved c = turned (goal.at.loop-height-preserved c).After-next_pa
 
 pub returns-else-n-full : goal.returns-else-n-full
 returns-else-n-full c =
-    let a = c.args in
-    turning_end (window_of a.words.now).queue.pending a.chain.now a.staged.now a.refused.now a.hashes.now a.heights.now a.index.now a.from a.last a.count a.full a.frontier c.requires.1 _ _ _ _ _ _ _
+    turning_end _ _ _ _ _ _ _ _ _ _ _ _ c.requires.1 _ _ _ _ _ _ _
     (turned (goal.at.returns-else-n-full c).After-next_past-next) (omega arith)
 
 pub returns : goal.returns
 returns c =
-    let s = c in
     let v = c.loop-height in
-    let a = s.args in
-    turning_end (window_of a.words.now).queue.pending a.chain.now a.staged.now a.refused.now a.hashes.now a.heights.now a.index.now a.from a.last a.count a.full a.frontier s.requires.1 v.height v.n v.first v.next v.hashes v.heights v.index v.invariant (omega (arith, c.loop-height-test.false))
+    turning_end _ _ _ _ _ _ _ _ _ _ _ _ c.requires.1 _ _ _ _ _ _ _ v.invariant (omega (arith, c.loop-height-test.false))

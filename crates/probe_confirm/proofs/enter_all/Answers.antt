@@ -19,10 +19,7 @@ pub loop-alternate-preserved : goal.loop-alternate-preserved
 loop-alternate-preserved c =
     let l = c.loop-alternate in
     let r = c.set_racer in
-    (r.ensures.whole, (enters_step c.args.alternates.now l.alternate-index (window_of r.new.words) (window_of l.words) c.loop-alternate-test.true r.ensures.is ∙ l.invariant.1.0, r.auto.words ∙ l.invariant.1.1))
-
-pub shape_of-words : goal.shape_of-words
-shape_of-words c = c.loop-alternate.invariant.1.1
+    (r.ensures.whole, (enters_step c.args.alternates.now l.alternate-index (window_of r.new.words) (window_of l.words) c.loop-alternate-test.true r.ensures.is ∙ l.invariant.1.0, (omega arith) ∙ l.invariant.1.1))
 
 pub returns : goal.returns
 returns c =

@@ -24,6 +24,6 @@ returns c =
     let w = window_of ws in
     let sh = words_shaped ws whole.long in
     let few : length hs ≤ 8 = omega (arith, count_hashes n rows, p.few) in
-    lifted ws _ (λ t. with_words 65 (rows_words 8 rows) (with_words 61 (probe_words x n) t)) _ whole (c.store_planned.auto.words ∙ c.store_probe.auto.words) (c.store_planned.ensures ∙ ap (with_words 65 (rows_words 8 rows)) c.store_probe.ensures)
+    lifted ws _ (λ t. with_words 65 (rows_words 8 rows) (with_words 61 (probe_words x n) t)) _ whole (omega arith) (c.store_planned.ensures ∙ ap (with_words 65 (rows_words 8 rows)) c.store_probe.ensures)
     ((λ i. with_words 65 (p.words i) (with_words 61 (probe_words x (sym (count_hashes n rows) i)) (table w))) ∙ plan_in w sh x hs few)
     (record { few = sh.few; starts = sh.starts; bodies = sh.bodies; keys = sh.keys; cooling = sh.cooling; racers = sh.racers; hedged = sh.hedged; planned = few })

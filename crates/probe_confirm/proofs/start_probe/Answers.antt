@@ -37,9 +37,6 @@ set_racer-requires c = (c.clear_racers.ensures.whole, omega (arith, c.requires.1
 pub enter_all-requires : goal.enter_all-requires
 enter_all-requires c = (c.set_racer.ensures.whole, c.requires.1.1.1.1)
 
-pub shape_of-words : goal.shape_of-words
-shape_of-words c = c.enter_all.auto.words ∙ c.set_racer.auto.words ∙ c.clear_racers.auto.words ∙ c.set_rows.auto.words ∙ c.set_attempted.auto.words
-
 pub returns : goal.returns
 unfolding probe_started
 returns c =

@@ -1,7 +1,7 @@
 -- `probe_plan::has_another` meets its contract. Assumes nothing.
-use mathlib.Core.Path.{◌≡◌, refl, sym, ap, ◌∙◌}
+use mathlib.Core.Path.{◌≡◌, sym, ap, ◌∙◌}
 use mathlib.Core.Bool.{true, false, not}
-use Prim.Native.Nat.{ℕ, ◌-◌}
+use Prim.Native.Nat.{ℕ}
 use native.Mathlib.Omega.{arith}
 use native.Mathlib.Numerals.{add-one}
 use lib.ListN.{length, drop}
@@ -12,12 +12,6 @@ use Rattle.model.specs.Layout.{window_of, blank}
 use Rattle.model.specs.declared.Entry.{Entry}
 use Rattle.state_races.specs.Hedges.{any_turn, any_end}
 use Rattle.probe_plan.proofs.has_another.Goals as goal
-
-pub loop-i-init : goal.loop-i-init
-loop-i-init c = refl
-
-pub entry_at-e-requires : goal.entry_at-e-requires
-entry_at-e-requires c = (c.requires, omega (arith, c.pending_count-n.ensures.0))
 
 pub returns-then-e-owner : goal.returns-then-e-owner
 returns-then-e-owner c =

@@ -15,9 +15,6 @@ returns-in_default c = none_plans _ (window_of c.args.words.now) c.no_planning-i
 pub returns-then-is_passed : goal.returns-then-is_passed
 returns-then-is_passed c = none_plans _ (window_of c.args.words.now) c.no_planning-then-is_passed.ensures (plan_passed (window_of c.args.words.now) (sym c.is_busy.ensures ∙ c.if-is_busy.false) c.lowest-lowest.result c.lowest-lowest.ensures _ c.in-Some.is (sym c.is_passed.ensures ∙ c.if-is_passed.true))
 
-pub plan_limit-limit-requires : goal.plan_limit-limit-requires
-plan_limit-limit-requires c = omega (arith, c.get_mean-mean.ensures, c.requires.1.1)
-
 pub returns-then-limit-lt-PREFIX_PROBE_WIN_BLOCKS : goal.returns-then-limit-lt-PREFIX_PROBE_WIN_BLOCKS
 returns-then-limit-lt-PREFIX_PROBE_WIN_BLOCKS c = none_plans _ (window_of c.args.words.now) c.no_planning-then-limit-lt-PREFIX_PROBE_WIN_BLOCKS.ensures (plan_small (window_of c.args.words.now) (sym c.is_busy.ensures ∙ c.if-is_busy.false) c.lowest-lowest.result c.lowest-lowest.ensures _ c.in-Some.is (sym c.is_passed.ensures ∙ c.if-is_passed.false) c.plan_limit-limit.result (c.plan_limit-limit.ensures.0 ∙ ap plan_limit c.get_mean-mean.ensures) (omega (arith, c.if-limit-lt-PREFIX_PROBE_WIN_BLOCKS.true)))
 

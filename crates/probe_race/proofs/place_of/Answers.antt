@@ -15,7 +15,7 @@ pub loop-i-init : goal.loop-i-init
 loop-i-init c = omega arith
 
 pub planned_hash-x-requires : goal.planned_hash-x-requires
-planned_hash-x-requires c = (c.requires.long, omega (arith, c.planned_count-n.ensures))
+planned_hash-x-requires c = omega (arith, c.planned_count-n.ensures)
 
 pub returns-then-equal : goal.returns-then-equal
 returns-then-equal c =

@@ -10,21 +10,18 @@ use Rattle.probe_race.specs.Race.{probe_ranges, noted_sound, race_on_is, race_wo
 use Rattle.probe_race.proofs.race_progress.Goals as goal
 
 pub bit_of-bit-requires : goal.bit_of-bit-requires
-bit_of-bit-requires c = c.requires.1.1.1.0
+bit_of-bit-requires c = c.requires.2
 
 pub note_progress-requires : goal.note_progress-requires
 note_progress-requires c =
     let s = c in
-    (s.requires.0, (c.bit_of-bit.ensures.0, (c.bit_of-bit.ensures.1, (omega (arith, s.requires.1.1.1.1.0), s.requires.1.0.races.racers.most s.args.source))))
-
-pub winner-w-requires : goal.winner-w-requires
-winner-w-requires c = c.note_progress.ensures.whole.long
+    (s.requires.0, (c.bit_of-bit.ensures.0, (c.bit_of-bit.ensures.1, (omega (arith, s.requires.3), s.requires.1.races.racers.most s.args.source))))
 
 pub race_on-requires : goal.race_on-requires
 race_on-requires c =
     let s = c in
     let a = s.args in
-    (c.note_progress.ensures.whole, (probe_ranges a.clock a.owner a.accepted a.started (window_of a.words.now) s.requires.1.0 s.requires.1.1.1.1.1).1)
+    (c.note_progress.ensures.whole, (probe_ranges a.clock a.owner a.accepted a.started (window_of a.words.now) s.requires.1 s.requires.4).1)
 
 pub race_won-requires : goal.race_won-requires
 race_won-requires c =
@@ -32,9 +29,9 @@ race_won-requires c =
     let by-note-progress = c.note_progress in
     let a = s.args in
     let w = window_of a.words.now in
-    let e = s.requires.1.1.1.1.1 in
-    let g = noted_sound a.clock a.i a.source a.owner a.accepted a.started w s.requires.1.1.1.0 s.requires.1.0 e in
-    (by-note-progress.ensures.whole, (subst (Sound a.clock) (sym by-note-progress.ensures.is) g, (s.requires.1.1.0, (subst SoundSource c.in-Some.is c.winner-w.ensures.1, (probe_ranges a.clock a.owner a.accepted a.started w s.requires.1.0 e).0))))
+    let e = s.requires.4 in
+    let g = noted_sound a.clock a.i a.source a.owner a.accepted a.started w s.requires.2 s.requires.1 e in
+    (by-note-progress.ensures.whole, subst (Sound a.clock) (sym by-note-progress.ensures.is) g, subst SoundSource c.in-Some.is c.winner-w.ensures.1, (probe_ranges a.clock a.owner a.accepted a.started w s.requires.1 e).0)
 
 pub returns-in-None : goal.returns-in-None
 unfolding releases_of

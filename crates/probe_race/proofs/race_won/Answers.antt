@@ -11,7 +11,7 @@ pub retain_peer_assignments-n-requires : goal.retain_peer_assignments-n-requires
 retain_peer_assignments-n-requires c =
     let s = c in
     let by-end-races = c.end_races in
-    (by-end-races.ensures.whole, (ended_ranged s.args.clock (window_of s.args.words.now) _ s.requires.1.0 by-end-races.ensures.is, (s.requires.1.1.0, c.race_flags-flags.ensures.long)))
+    (by-end-races.ensures.whole, ended_ranged s.args.clock (window_of s.args.words.now) _ s.requires.1 by-end-races.ensures.is)
 
 pub cool_loser-requires : goal.cool_loser-requires
 cool_loser-requires c =
@@ -19,11 +19,11 @@ cool_loser-requires c =
     let by-race-flags = c.race_flags-flags in
     let by-retain-peer-assignments = c.retain_peer_assignments-n in
     let w = window_of s.args.words.now in
-    let k = key_kept s.args.clock s.args.win s.args.owner w _ _ by-race-flags.result s.requires.1.0 by-race-flags.ensures c.end_races.ensures.is by-retain-peer-assignments.ensures.1.is in
-    (by-retain-peer-assignments.ensures.1.whole, (omega (arith, s.requires.1.1.1.1), (s.requires.1.0.clock, k)))
+    let k = key_kept s.args.clock s.args.win s.args.owner w _ _ by-race-flags.result s.requires.1 by-race-flags.ensures c.end_races.ensures.is by-retain-peer-assignments.ensures.1.is in
+    (by-retain-peer-assignments.ensures.1.whole, (omega (arith, s.requires.3), (s.requires.1.clock, k)))
 
 pub set_preferred-requires : goal.set_preferred-requires
-set_preferred-requires c = (c.cool_loser.ensures.whole, omega (arith, c.requires.1.1.1.0))
+set_preferred-requires c = (c.cool_loser.ensures.whole, omega (arith, c.requires.2))
 
 pub returns : goal.returns
 returns c =
@@ -32,6 +32,6 @@ returns c =
     let by-end-races = c.end_races in
     let by-retain-peer-assignments = c.retain_peer_assignments-n in
     let w = window_of s.args.words.now in
-    let e = won_window s.args.clock s.args.win s.args.owner w _ _ by-race-flags.result s.requires.1.0 by-race-flags.ensures by-end-races.ensures.is by-retain-peer-assignments.ensures.1.is _ c.cool_loser.ensures.is in
-    let g = won_gone s.args.clock s.args.win s.args.owner w _ _ by-race-flags.result s.requires.1.0 by-race-flags.ensures by-end-races.ensures.is by-retain-peer-assignments.ensures.1.is in
+    let e = won_window s.args.clock s.args.win s.args.owner w _ _ by-race-flags.result s.requires.1 by-race-flags.ensures by-end-races.ensures.is by-retain-peer-assignments.ensures.1.is _ c.cool_loser.ensures.is in
+    let g = won_gone s.args.clock s.args.win s.args.owner w _ _ by-race-flags.result s.requires.1 by-race-flags.ensures by-end-races.ensures.is by-retain-peer-assignments.ensures.1.is in
     (by-retain-peer-assignments.ensures.0, subst (λ (v : Window). Holds v c.set_preferred.new.words) e c.set_preferred.ensures, by-retain-peer-assignments.ensures.2 ∙ g)

@@ -30,7 +30,7 @@ pub race_progress-requires : goal.race_progress-requires
 race_progress-requires c =
     let s = c in
     let a = s.args in
-    (s.requires.0, (s.requires.1.0, (s.requires.1.1.0, (omega (arith, c.if-n-i.false, c.planned_count-n.ensures, (words_shaped a.words.now s.requires.0.long).planned), (s.requires.1.1.1, sym c.get_probe-p.ensures ∙ c.in-Some.is)))))
+    (s.requires.0, s.requires.1, omega (arith, c.if-n-i.false, c.planned_count-n.ensures, (words_shaped a.words.now s.requires.0.long).planned), s.requires.2, sym c.get_probe-p.ensures ∙ c.in-Some.is)
 
 pub returns : goal.returns
 returns c =

@@ -18,7 +18,7 @@ returns-then-has_won c =
     let s = c in
     let by_loop = c.loop-seat in
     let l = (window_of s.args.words.now).races.racers in
-    let e = winner_turn l by_loop.seat true (omega (arith, (words_shaped s.args.words.now s.requires).racers)) (ap has_won (sym c.racer_of-racer.ensures) ∙ sym c.has_won.ensures ∙ c.if-has_won.true) in
+    let e = winner_turn l by_loop.seat true (omega (arith, (words_shaped s.args.words.now s.told-words).racers)) (ap has_won (sym c.racer_of-racer.ensures) ∙ sym c.has_won.ensures ∙ c.if-has_won.true) in
     (sym (by_loop.invariant ∙ e), omega arith)
 
 pub loop-seat-preserved : goal.loop-seat-preserved
@@ -26,11 +26,11 @@ loop-seat-preserved c =
     let s = c in
     let by_loop = c.loop-seat in
     let l = (window_of s.args.words.now).races.racers in
-    let e = winner_turn l by_loop.seat false (omega (arith, (words_shaped s.args.words.now s.requires).racers)) (ap has_won (sym c.racer_of-racer.ensures) ∙ sym c.has_won.ensures ∙ c.if-has_won.false) in
+    let e = winner_turn l by_loop.seat false (omega (arith, (words_shaped s.args.words.now s.told-words).racers)) (ap has_won (sym c.racer_of-racer.ensures) ∙ sym c.has_won.ensures ∙ c.if-has_won.false) in
     rw add-one (by_loop.invariant ∙ e)
 
 pub returns : goal.returns
 returns c =
     let s = c in
     let l = (window_of s.args.words.now).races.racers in
-    (sym (c.loop-seat.invariant ∙ winner_end l c.loop-seat.seat (omega (arith, (words_shaped s.args.words.now s.requires).racers))), tt)
+    (sym (c.loop-seat.invariant ∙ winner_end l c.loop-seat.seat (omega (arith, (words_shaped s.args.words.now s.told-words).racers))), tt)

@@ -1,16 +1,17 @@
 -- `queries::contains_pending` meets its contract. Assumes nothing.
-use mathlib.Core.Path.{sym, subst, ap}
-use Rattle.model.specs.Layout.{window_of}
-use Rattle.model.specs.Records.{is_there}
+use Rattle.std.specs.Prelude.{◌≡◌, true, ℕ, List, Result, Ok, Err}
+use mathlib.Core.Path.{sym, ap, ◌∙◌}
+use Rattle.std.specs.Result.{is_ok}
+use Rattle.model.specs.Layout.{rising}
+use Rattle.model.specs.Records.{found, is_there}
+use Rattle.model.specs.declared.Hash.{Hash}
+use Rattle.model.specs.declared.Entry.{Entry}
 use Rattle.records.specs.Places.{Finds, here_found, free_found}
 use Rattle.queries.proofs.contains_pending.Goals as goal
 
-pub returns-in-Ok : goal.returns-in-Ok
-returns-in-Ok c =
-    let l = (window_of c.args.words.now).queue.pending in
-    sym (ap is_there (here_found c.args.h l c.in-Ok.field-0 c.requires.1 (subst (Finds c.args.h l) c.in-Ok.is c.find-p.ensures)).0)
+there : (h : Hash) (l : List Entry) (p : Result ℕ ℕ) → rising l ≡ true → Finds h l p → is_ok p ≡ is_there (found h l)
+there h l (Ok at) r f = sym (ap is_there (here_found h l at r f).0)
+there h l (Err at) r f = sym (ap is_there (free_found h l at r f).0)
 
-pub returns-in-Err : goal.returns-in-Err
-returns-in-Err c =
-    let l = (window_of c.args.words.now).queue.pending in
-    sym (ap is_there (free_found c.args.h l c.in-Err.field-0 c.requires.1 (subst (Finds c.args.h l) c.in-Err.is c.find-p.ensures)).0)
+pub returns : goal.returns
+returns c = c.is_ok.ensures.value ∙ there _ _ _ c.requires.1 c.find.ensures

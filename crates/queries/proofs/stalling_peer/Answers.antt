@@ -13,8 +13,8 @@ use Rattle.queries.proofs.stalling_peer.Goals as goal
 
 pub key_of-key-requires : goal.key_of-key-requires
 key_of-key-requires c =
-    let owner = subst seated (sym c.get_stall-s.ensures ∙ c.in-Some.is) c.requires.1 in
-    (c.requires.0, omega arith)
+    let owner = subst seated (sym c.get_stall-s.ensures ∙ c.in-Some.is) c.requires in
+    omega arith
 
 pub returns-in-None : goal.returns-in-None
 returns-in-None c = rw (← c.get_stall-s.ensures, c.in-None.is)

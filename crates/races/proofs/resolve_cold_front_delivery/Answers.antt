@@ -15,8 +15,8 @@ use Rattle.races.proofs.resolve_cold_front_delivery.Goals as goal
 
 pub hedge_lost-requires : goal.hedge_lost-requires
 hedge_lost-requires c =
-    let seats = (subst Seated c.in-Loses.is (c.resolve_as-r.ensures.1 c.args.clock (subst (SoundCold c.args.clock) (sym c.get_cold-cold.ensures) c.requires.1.0.races.cold))) in
-    (c.set_cold-in-Loses.ensures.whole, (subst (Sound c.args.clock) (sym c.set_cold-in-Loses.ensures.is) (sound_cold c.requires.1.0 Idle tt), (c.requires.1.1, (seats.0, seats.1))))
+    let seats = (subst Seated c.in-Loses.is (c.resolve_as-r.ensures.1 c.args.clock (subst (SoundCold c.args.clock) (sym c.get_cold-cold.ensures) c.requires.1.races.cold))) in
+    (c.set_cold-in-Loses.ensures.whole, subst (Sound c.args.clock) (sym c.set_cold-in-Loses.ensures.is) (sound_cold c.requires.1 Idle tt), seats.0, seats.1)
 
 pub returns-in-Stays : goal.returns-in-Stays
 unfolding releases_of

@@ -4,7 +4,7 @@ use mathlib.Core.Path.{◌≡◌, refl, sym, ap, ◌∙◌}
 use mathlib.Core.Logic.{inl, inr}
 use mathlib.Core.Bool.{Bool, true, false, cond, not}
 use mathlib.Core.List.{List, [], ◌∷◌, map}
-use Prim.Native.Nat.{ℕ, zero, suc, ◌+◌, ◌-◌, ◌<◌}
+use Prim.Native.Nat.{ℕ, suc, ◌+◌, ◌-◌}
 use native.Mathlib.Omega.{arith}
 use lib.ListN.{length, take, drop, get_or}
 use lib.Seq.{get_or-take}
@@ -65,7 +65,7 @@ found c =
     let heights = take (1536 + a.count - 1536) (drop 1536 a.words.now) in
     let p : c.position.result ≡ place a.height heights =
     position_from_yields_List (is a.height) _ _ c.position.result c.position.ensures.ran (YieldsList-from_slice heights c.iter.ensures.rest) (λ x b q k. search (rules, tests)) in
-    p ∙ ap (place a.height) (live_col 6 a.count a.words.now (omega arith) (omega arith) c.requires.0)
+    p ∙ ap (place a.height) (live_col 6 a.count a.words.now (omega arith) (omega arith) c.told-words)
 
 pub returns-in-Some : goal.returns-in-Some
 unfolding decode

@@ -14,10 +14,10 @@ pub loop-k-preserved : goal.loop-k-preserved
 loop-k-preserved c =
     let l = c.loop-k in
     let gone = c.clear_from in
-    upto_call (kept_col all_marked) l.k c.args.words.now l.words gone.new.col (omega arith) c.requires gone.auto.col
+    upto_call (kept_col all_marked) l.k c.args.words.now l.words gone.new.col (omega arith) c.told-words gone.auto.col
     (gone.ensures ∙ cleared l.k l.words) l.invariant
 
 pub returns : goal.returns
 returns c =
     let l = c.loop-k in
-    decode_kept all_marked c.args.words.now l.words c.requires (all_columns l.invariant (omega arith) (omega arith))
+    decode_kept all_marked c.args.words.now l.words c.told-words (all_columns l.invariant (omega arith) (omega arith))

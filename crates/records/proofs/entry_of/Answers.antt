@@ -8,4 +8,4 @@ pub returns : goal.returns
 returns c =
     let h = c in
     let a = h.args in
-    entry_words a.i a.words.now h.hash_of-hash.result h.hash_of-hash.ensures ∙ sym (entry_decode a.i a.words.now h.requires.1)
+    entry_words a.i a.words.now h.hash_of-hash.result h.hash_of-hash.ensures ∙ sym (entry_decode a.i a.words.now h.requires)

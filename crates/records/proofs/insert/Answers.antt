@@ -15,20 +15,20 @@ pub insert_live-requires : goal.insert_live-requires
 insert_live-requires c =
     let l = c.loop-k in
     let ws = c.args.words.now in (
-      mid_long l.k ws l.words (omega arith) c.requires.0 l.invariant.long,
+      mid_long l.k ws l.words (omega arith) c.told-words l.invariant.long,
+      c.requires.0,
       c.requires.1,
-      c.requires.2,
-      mid_blank l.k c.args.live ws l.words (omega arith) c.requires.0 (l.invariant.todo l.k (omega arith)) c.requires.3,
+      mid_blank l.k c.args.live ws l.words (omega arith) c.told-words (l.invariant.todo l.k (omega arith)) c.requires.2,
     )
 
 pub loop-k-preserved : goal.loop-k-preserved
 loop-k-preserved c =
     let l = c.loop-k in
     let put = c.insert_live in
-    upto_call (put_col c.args.at c.args.e) l.k c.args.words.now l.words put.new.col (omega arith) c.requires.0 put.auto.col
+    upto_call (put_col c.args.at c.args.e) l.k c.args.words.now l.words put.new.col (omega arith) c.told-words put.auto.col
     (put.ensures ∙ ap (λ (v : ℕ). inserted c.args.at v (mid l.k l.words)) c.field_of-v.ensures) l.invariant
 
 pub returns : goal.returns
 returns c =
     let l = c.loop-k in
-    decode_put_in c.args.at c.args.e c.args.words.now l.words c.requires.0 (all_columns l.invariant (omega arith) (omega arith))
+    decode_put_in c.args.at c.args.e c.args.words.now l.words c.told-words (all_columns l.invariant (omega arith) (omega arith))

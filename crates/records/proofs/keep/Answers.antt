@@ -12,9 +12,9 @@ pub loop-k-preserved : goal.loop-k-preserved
 loop-k-preserved c =
     let l = c.loop-k in
     let kept = c.keep_unmarked in
-    upto_call (kept_col c.args.marks.now) l.k c.args.words.now l.words kept.new.col (omega arith) c.requires.0 kept.auto.col kept.ensures l.invariant
+    upto_call (kept_col c.args.marks.now) l.k c.args.words.now l.words kept.new.col (omega arith) c.told-words kept.auto.col kept.ensures l.invariant
 
 pub returns : goal.returns
 returns c =
     let l = c.loop-k in
-    decode_kept c.args.marks.now c.args.words.now l.words c.requires.0 (all_columns l.invariant (omega arith) (omega arith))
+    decode_kept c.args.marks.now c.args.words.now l.words c.told-words (all_columns l.invariant (omega arith) (omega arith))

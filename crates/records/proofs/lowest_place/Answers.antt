@@ -62,8 +62,7 @@ pub loop-i-preserved : goal.loop-i-preserved
 loop-i-preserved c =
     let a = c.args in
     let l = c.loop-i in
-    let fits = c.type_inv.words (l.i - 1 + 1536) in
-    stays a.words.now a.count l.i (l.i - 1) (omega arith) (omega arith) (omega arith) l.best l.low c.if-g-low.false (omega (arith, fits)) l.invariant
+    stays a.words.now a.count l.i (l.i - 1) (omega arith) (omega arith) (omega arith) l.best l.low c.if-g-low.false (omega arith) l.invariant
 
 pub returns : goal.returns
 unfolding decode

@@ -109,11 +109,10 @@ unfolding decode
 returns-then-low-floor c =
     let a = c.args in
     let l = c.loop-i in
-    let fits = c.type_inv.words (l.i - 1 + 1280) in
     let live = take a.count (rows 256 a.words.now) in
     let last =
     turn a.owner a.count l.i (l.i - 1) l.low c.low_after-low.result l.any c.any_after-any.result a.words.now (omega arith) (omega arith)
-    (omega arith) (omega (arith, fits)) l.invariant.1 c.low_after-low.ensures c.any_after-any.ensures in
+    (omega arith) (omega arith) l.invariant.1 c.low_after-low.ensures c.any_after-any.ensures in
     let one : suc (a.floor - 1) ≡ a.floor = omega arith in
     one ∙ sym (older_all a.floor a.owner (l.i - 1) live (omega arith)
     (below a.floor c.low_after-low.result (oldest a.owner (drop (l.i - 1) live)) c.any_after-any.result (omega arith) (omega arith) last))
@@ -121,11 +120,10 @@ returns-then-low-floor c =
 pub loop-i-preserved : goal.loop-i-preserved
 loop-i-preserved c =
     let a = c.args in
-    let l = c.loop-i in
-    let fits = c.type_inv.words (l.i - 1 + 1280) in (
+    let l = c.loop-i in (
       omega arith,
       turn a.owner a.count l.i (l.i - 1) l.low c.low_after-low.result l.any c.any_after-any.result a.words.now (omega arith) (omega arith)
-          (omega arith) (omega (arith, fits)) l.invariant.1 c.low_after-low.ensures c.any_after-any.ensures,
+          (omega arith) (omega arith) l.invariant.1 c.low_after-low.ensures c.any_after-any.ensures,
     )
 
 pub returns : goal.returns

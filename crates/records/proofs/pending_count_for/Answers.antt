@@ -38,4 +38,4 @@ returns c =
     let l = c.loop-seat in
     let seats = S a.count a.words.now in
     let all : l.n ≡ count (is a.owner) seats = omega (arith, count_end (is a.owner) seats l.seat-index (omega arith), l.invariant.1) in
-    all ∙ ap (count (is a.owner)) (live_col 4 a.count a.words.now (omega arith) (omega arith) c.requires.0) ∙ of_seats a.owner _
+    all ∙ ap (count (is a.owner)) (live_col 4 a.count a.words.now (omega arith) (omega arith) c.told-words) ∙ of_seats a.owner _

@@ -12,19 +12,19 @@ pub remove_live-requires : goal.remove_live-requires
 remove_live-requires c =
     let l = c.loop-k in
     let ws = c.args.words.now in (
-      mid_long l.k ws l.words (omega arith) c.requires.0 l.invariant.long,
+      mid_long l.k ws l.words (omega arith) c.told-words l.invariant.long,
+      c.requires.0,
       c.requires.1,
-      c.requires.2,
-      mid_blank l.k c.args.live ws l.words (omega arith) c.requires.0 (l.invariant.todo l.k (omega arith)) c.requires.3,
+      mid_blank l.k c.args.live ws l.words (omega arith) c.told-words (l.invariant.todo l.k (omega arith)) c.requires.2,
     )
 
 pub loop-k-preserved : goal.loop-k-preserved
 loop-k-preserved c =
     let l = c.loop-k in
     let out = c.remove_live in
-    upto_call (removed_col c.args.at) l.k c.args.words.now l.words out.new.col (omega arith) c.requires.0 out.auto.col out.ensures l.invariant
+    upto_call (removed_col c.args.at) l.k c.args.words.now l.words out.new.col (omega arith) c.told-words out.auto.col out.ensures l.invariant
 
 pub returns : goal.returns
 returns c =
     let l = c.loop-k in
-    decode_removed c.args.at c.args.words.now l.words c.requires.0 (all_columns l.invariant (omega arith) (omega arith))
+    decode_removed c.args.at c.args.words.now l.words c.told-words (all_columns l.invariant (omega arith) (omega arith))

@@ -29,4 +29,4 @@ returns c =
     let heights = take (1536 + a.count - 1536) (drop 1536 a.words.now) in
     let higher : c.all.result ≡ list_all (λ h. ltb a.height h) heights =
     all_from_yields_List (λ h. ltb a.height h) _ _ c.all.result c.all.ensures.ran (YieldsList-from_slice heights c.iter.ensures.rest) (λ x b q k. search (rules, tests)) in
-    higher ∙ ap (list_all (λ h. ltb a.height h)) (live_col 6 a.count a.words.now (omega arith) (omega arith) c.requires.0) ∙ of_heights a.height _
+    higher ∙ ap (list_all (λ h. ltb a.height h)) (live_col 6 a.count a.words.now (omega arith) (omega arith) c.told-words) ∙ of_heights a.height _

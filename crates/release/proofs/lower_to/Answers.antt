@@ -4,16 +4,9 @@ use mathlib.Core.Path.{sym, subst}
 use Rattle.model.specs.LettingGo.{lower_to}
 use Rattle.model.specs.Layout.{window_of}
 use Rattle.laws.specs.Whole.{Holds, holds_whole}
-use Rattle.release.specs.Removes.{lowered_holds}
 use Rattle.release.proofs.lower_to.Goals as goal
 
 pub returns-in_default : goal.returns-in_default
 returns-in_default c =
     let a = c.args in
     subst (λ (n : Option ℕ). Holds (lower_to n (window_of a.words.now)) a.words.now) (sym c.in_default.is) (holds_whole a.words.now c.requires)
-
-pub returns-in-Some : goal.returns-in-Some
-returns-in-Some c =
-    let a = c.args in
-    subst (λ (n : Option ℕ). Holds (lower_to n (window_of a.words.now)) c.set_frontier.new.words) (sym c.in-Some.is)
-    (lowered_holds a.words.now c.set_frontier.new.words c.in-Some.n c.get_frontier-f.result c.lesser-low.result c.get_frontier-f.ensures c.lesser-low.ensures c.set_frontier.ensures)

@@ -4,9 +4,6 @@ use Rattle.model.specs.Layout.{window_of}
 use Rattle.release.specs.Removes.{then_lowered}
 use Rattle.release.proofs.requeue_for_retry.Goals as goal
 
-pub lower_to-requires : goal.lower_to-requires
-lower_to-requires c = c.remove_pending-n.ensures.1.whole
-
 pub returns : goal.returns
 unfolding requeue_for_retry
 returns c =

@@ -1,5 +1,5 @@
 -- `report_first::put_first` meets its contract. Assumes nothing.
-use mathlib.Core.Path.{◌∙◌}
+use native.Mathlib.Omega.{arith}
 use Rattle.report_first.specs.Fronts.{front_put}
 use Rattle.report_first.proofs.put_first.Goals as goal
 
@@ -9,4 +9,4 @@ returns c =
     let x = s.args.gone.now in
     let y = c.make_room.new.gone in
     λ n b.
-    rw c.copy_over.ensures (front_put x y s.args.first.now (c.make_room.auto.gone ∙ s.requires.0) s.requires.1 c.make_room.ensures n b)
+    rw c.copy_over.ensures (front_put x y s.args.first.now (omega arith) s.told-first c.make_room.ensures n b)

@@ -7,14 +7,13 @@ use Rattle.model.specs.Layout.{window_of}
 use Rattle.laws.specs.Kept.{requestable_is}
 use Rattle.requests.specs.Asks.{asks_within}
 use Rattle.request_order.specs.Rows.{ordered_good}
-use borrow.Author.Rules.{rules}
 use Rattle.request_calls.proofs.request_in_order.Goals as goal
 
 pub find_order-requires : goal.find_order-requires
 find_order-requires c =
     let s = c in
     let a = s.args in
-    (s.requires.0.0, (s.requires.1.0, (s.requires.1.1.1, (omega (arith, s.requires.1.1.0, (asks_within a.hashes.now a.heights.now).0), search rules))))
+    (s.requires.0.0, s.requires.1.0, s.requires.1.1.1, omega (arith, s.requires.1.1.0, (asks_within a.hashes.now a.heights.now).0))
 
 pub mark_in_order-requires : goal.mark_in_order-requires
 mark_in_order-requires c =

@@ -1,5 +1,5 @@
 -- `request_calls::request_one` meets its contract. Assumes nothing.
-use mathlib.Core.Path.{refl, sym, subst}
+use mathlib.Core.Path.{sym, subst}
 use native.Mathlib.Omega.{arith}
 use Rattle.model.specs.Calls.{asks_in}
 use Rattle.model.specs.Layout.{window_of}
@@ -16,9 +16,6 @@ pub hash_in-h-requires : goal.hash_in-h-requires
 hash_in-h-requires c =
     let s = c in
     omega (arith, s.requires.1.1, (asks_within s.args.hashes.now s.args.heights.now).0)
-
-pub shape_of-words-then-m-ge-PLACES : goal.shape_of-words-then-m-ge-PLACES
-shape_of-words-then-m-ge-PLACES c = refl
 
 pub returns-then-m-ge-PLACES : goal.returns-then-m-ge-PLACES
 returns-then-m-ge-PLACES c =
@@ -41,9 +38,6 @@ mark_found-requires c =
       (s.requires.0.0, (s.requires.0.1.0, (requestable_is (asks_in a.hashes.now a.heights.now) w (sym good), s.requires.0.1.1))),
       (s.requires.1.1, subst (λ (g : Hash). Finds g w.queue.pending (Err c.in-Err.at)) e f),
     )
-
-pub shape_of-words-in-Ok : goal.shape_of-words-in-Ok
-shape_of-words-in-Ok c = refl
 
 pub returns-in-Ok : goal.returns-in-Ok
 returns-in-Ok c =

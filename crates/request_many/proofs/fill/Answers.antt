@@ -17,4 +17,4 @@ loop-j-preserved c =
     let p = c.put_row in
     let r = c.row_entry-e in
     filled_turn a.words.now a.hashes.now a.heights.now a.order.now a.m a.total a.owner a.clock a.mean s.requires l.j l.words p.new.words r.result
-    (omega (arith, c.loop-j-test.true)) l.invariant r.ensures p.ensures p.auto.words
+    (omega (arith, c.loop-j-test.true)) l.invariant r.ensures p.ensures (omega arith)

@@ -12,8 +12,8 @@ pub loop-k-preserved : goal.loop-k-preserved
 loop-k-preserved c =
     let l = c.loop-k in
     upto_call (set_col c.args.at c.args.e) l.k c.args.words.now l.words c.store.new.col
-    (omega arith) c.requires.0 c.store.auto.col
+    (omega arith) c.told-words c.store.auto.col
     (c.store.ensures ∙ ap (λ (v : ℕ). set (mid l.k l.words) c.args.at v) c.field_of-v.ensures) l.invariant
 
 pub returns : goal.returns
-returns c = decode_set c.args.at c.args.e c.args.words.now c.loop-k.words c.requires.0 (all_columns c.loop-k.invariant (omega arith) (omega arith))
+returns c = decode_set c.args.at c.args.e c.args.words.now c.loop-k.words c.told-words (all_columns c.loop-k.invariant (omega arith) (omega arith))

@@ -42,10 +42,7 @@ loop-i-preserved c =
     let s = c in
     let l = c.loop-i in
     let within : l.i < length (asks_in s.args.hashes.now s.args.heights.now) = omega (arith, s.requires.1.1.1, c.loop-i-test.true) in
-    (c.put_one.ensures.whole, (turn_puts s.args.hashes.now s.args.heights.now s.args.owner s.args.clock (window_of s.args.words.now) l.i c.hash_in-h.result (window_of l.words) (window_of c.put_one.new.words) within c.hash_in-h.ensures s.requires.1.0 c.put_one.ensures.is l.invariant.1.0, c.put_one.auto.words ∙ l.invariant.1.1))
-
-pub shape_of-words : goal.shape_of-words
-shape_of-words c = c.loop-i.invariant.1.1
+    (c.put_one.ensures.whole, (turn_puts s.args.hashes.now s.args.heights.now s.args.owner s.args.clock (window_of s.args.words.now) l.i c.hash_in-h.result (window_of l.words) (window_of c.put_one.new.words) within c.hash_in-h.ensures s.requires.1.0 c.put_one.ensures.is l.invariant.1.0, (omega arith) ∙ l.invariant.1.1))
 
 pub returns : goal.returns
 returns c =

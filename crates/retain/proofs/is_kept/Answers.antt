@@ -5,7 +5,7 @@ use Rattle.retain.specs.Retains.{not_flagged}
 use Rattle.retain.proofs.is_kept.Goals as goal
 
 pub returns-then-seat-gt-MAX_SEAT : goal.returns-then-seat-gt-MAX_SEAT
-returns-then-seat-gt-MAX_SEAT c = not_flagged c.args.flags.now c.args.seat c.requires c.if-seat-gt-MAX_SEAT.true
+returns-then-seat-gt-MAX_SEAT c = not_flagged c.args.flags.now c.args.seat c.told-flags c.if-seat-gt-MAX_SEAT.true
 
 pub returns : goal.returns
 unfolding flagged

@@ -7,16 +7,10 @@ use Rattle.laws.specs.Whole.{holds_whole}
 use Rattle.retain.specs.Retains.{probe_none, probe_stays, probe_goes}
 use Rattle.retain.proofs.keep_probe.Goals as goal
 
-pub get_probe-p-requires : goal.get_probe-p-requires
-get_probe-p-requires c = c.requires.0.long
-
 pub returns-in-None : goal.returns-in-None
 returns-in-None c =
     let a = c.args in
-    probe_none a.flags.now a.words.now c.get_probe-p.result c.get_probe-p.ensures c.in-None.is (holds_whole a.words.now c.requires.0)
-
-pub racers_left-n-requires : goal.racers_left-n-requires
-racers_left-n-requires c = c.keep_racers.ensures.whole.long
+    probe_none a.flags.now a.words.now c.get_probe-p.result c.get_probe-p.ensures c.in-None.is (holds_whole a.words.now c.requires)
 
 pub returns-then-owned-n : goal.returns-then-owned-n
 returns-then-owned-n c =

@@ -8,32 +8,23 @@ use Rattle.states.specs.Fits.{cold_fits}
 use Rattle.retain.specs.Retains.{cold_kept_fits, peer_kept_fits, roles_hold}
 use Rattle.retain.proofs.keep_roles.Goals as goal
 
-pub get_cold-c-requires : goal.get_cold-c-requires
-get_cold-c-requires c = c.requires.0.long
-
-pub get_preferred-p-requires : goal.get_preferred-p-requires
-get_preferred-p-requires c = c.requires.0.long
-
-pub get_attempted-a-requires : goal.get_attempted-a-requires
-get_attempted-a-requires c = c.requires.0.long
-
 pub set_cold-requires : goal.set_cold-requires
 set_cold-requires c =
     let owns = flagged c.args.flags.now in
-    (c.requires.0, subst cold_fits (sym (c.cold_kept-cold.ensures ∙ ap (cold_kept owns) c.get_cold-c.ensures)) (cold_kept_fits owns (window_of c.args.words.now).races.cold c.requires.1.1.cold))
+    (c.requires.0, subst cold_fits (sym (c.cold_kept-cold.ensures ∙ ap (cold_kept owns) c.get_cold-c.ensures)) (cold_kept_fits owns (window_of c.args.words.now).races.cold c.requires.1.cold))
 
 pub set_preferred-requires : goal.set_preferred-requires
 set_preferred-requires c =
     let owns = flagged c.args.flags.now in
-    (c.set_cold.ensures.whole, subst (λ (x : Option ℕ). source_word x ≤ 256) (sym (c.peer_kept-preferred.ensures ∙ ap (peer_kept owns) c.get_preferred-p.ensures)) (peer_kept_fits owns (window_of c.args.words.now).races.preferred c.requires.1.1.preferred))
+    (c.set_cold.ensures.whole, subst (λ (x : Option ℕ). source_word x ≤ 256) (sym (c.peer_kept-preferred.ensures ∙ ap (peer_kept owns) c.get_preferred-p.ensures)) (peer_kept_fits owns (window_of c.args.words.now).races.preferred c.requires.1.preferred))
 
 pub set_attempted-requires : goal.set_attempted-requires
 set_attempted-requires c =
     let owns = flagged c.args.flags.now in
-    (c.set_preferred.ensures.whole, subst (λ (x : Option ℕ). source_word x ≤ 256) (sym (c.peer_kept-attempted.ensures ∙ ap (peer_kept owns) c.get_attempted-a.ensures)) (peer_kept_fits owns (window_of c.args.words.now).races.attempted c.requires.1.1.attempted))
+    (c.set_preferred.ensures.whole, subst (λ (x : Option ℕ). source_word x ≤ 256) (sym (c.peer_kept-attempted.ensures ∙ ap (peer_kept owns) c.get_attempted-a.ensures)) (peer_kept_fits owns (window_of c.args.words.now).races.attempted c.requires.1.attempted))
 
 pub keep_probe-requires : goal.keep_probe-requires
-keep_probe-requires c = (c.set_attempted.ensures.whole, c.requires.1.0)
+keep_probe-requires c = c.set_attempted.ensures.whole
 
 pub returns : goal.returns
 returns c =

@@ -6,12 +6,12 @@ use Rattle.retain.specs.Retains.{roles_ranged, owned_is}
 use Rattle.retain.proofs.retain_owned_by.Goals as goal
 
 pub keep_roles-requires : goal.keep_roles-requires
-keep_roles-requires c = (c.requires.0, (c.requires.1.1.1.1, c.requires.1.1.0))
+keep_roles-requires c = (c.requires.0, c.requires.2)
 
 pub retain_peer_assignments-requires : goal.retain_peer_assignments-requires
 retain_peer_assignments-requires c =
     let a = c.args in
-    (c.keep_roles.ensures.whole, (roles_ranged a.flags.now a.words.now c.keep_roles.new.words c.requires.1.0 c.keep_roles.ensures, (c.requires.1.1.1.0, c.requires.1.1.1.1)))
+    (c.keep_roles.ensures.whole, roles_ranged a.flags.now a.words.now c.keep_roles.new.words c.requires.1 c.keep_roles.ensures)
 
 pub returns : goal.returns
 returns c =

@@ -1,18 +1,16 @@
 -- `retries::retry` meets its contract: at the loop's head what is taken of the first i, and what the others come to, are all. Assumes nothing.
 use mathlib.Core.Path.{◌≡◌, sym, ◌∙◌}
-use mathlib.Core.Bool.{true, false}
 use mathlib.Core.List.{List, ◌∷◌}
-use Prim.Native.Nat.{ℕ, suc, ◌-◌, ◌%◌, ◌≤◌, ◌<◌}
+use Prim.Native.Nat.{ℕ, suc, ◌%◌, ◌≤◌, ◌<◌}
 use native.Mathlib.Omega.{arith}
 use lib.ListN.{length, drop, get_or}
 use Rattle.model.specs.Numbers.{max_height}
-use Rattle.model.specs.Layout.{window_of}
 use Rattle.model.specs.Calls.{Ask}
 use Rattle.model.specs.Planning.{ask, is_refused, swept_asks}
 use Rattle.model.specs.declared.Hash.{Hash}
 use Rattle.report_words.specs.Report.{releases_of}
 use Rattle.swept_order.specs.Keys.{entry_from, asks_for, swept_low}
-use Rattle.retries.specs.Retries.{lent_for, retries, room_left, going_start, going_end, going_stop, going_refused, going_passed, going_taken, asks_count, next_ask, next_is, next_low}
+use Rattle.retries.specs.Retries.{retries, room_left, going_start, going_end, going_stop, going_refused, going_passed, going_taken, asks_count, next_ask, next_is, next_low}
 use Rattle.retries.proofs.retry.Goals.{At-loop-i}
 use Rattle.retries.proofs.retry.Goals as goal
 
@@ -22,7 +20,7 @@ abbrev asks : At-loop-i → List Ask
 asks c = swept_asks (releases_of c.args.n c.args.gone.now)
 
 room : (c : At-loop-i) → c.args.n ≤ length c.args.keys.now
-room c = omega (arith, c.requires.0.few, c.requires.1.0)
+room c = omega (arith, c.requires.0.few, c.told-keys)
 
 -- the next of the swept
 abbrev next_entry : (c : At-loop-i) → Ask
@@ -30,32 +28,20 @@ next_entry c = asks_for (entry_from c.args.gone.now (get_or c.args.keys.now c.lo
 
 module _ (c : At-loop-i) (below : c.loop-i.i < c.args.n) where
   next : drop c.loop-i.i (asks c) ≡ next_entry c ∷ drop (suc c.loop-i.i) (asks c)
-  next = next_ask c.args.gone.now c.args.keys.now c.args.n (room c) (asks c) c.requires.1.1.0 c.loop-i.i below
+  next = next_ask c.args.gone.now c.args.keys.now c.args.n (room c) (asks c) c.requires.1 c.loop-i.i below
 
   module _ (h : Hash) (height : ℕ) (eh : h ≡ (next_entry c).hash) (et : height ≡ (next_entry c).height) where
     is : drop c.loop-i.i (asks c) ≡ ask h height ∷ drop (suc c.loop-i.i) (asks c)
-    is = next_is c.args.gone.now c.args.keys.now c.args.n (room c) (asks c) c.requires.1.1.0 c.loop-i.i h height below eh et
+    is = next_is c.args.gone.now c.args.keys.now c.args.n (room c) (asks c) c.requires.1 c.loop-i.i h height below eh et
 
     low : height ≤ max_height
-    low = next_low c.args.gone.now c.args.keys.now c.args.n (room c) (asks c) c.requires.1.1.0 c.loop-i.i h height below eh et
+    low = next_low c.args.gone.now c.args.keys.now c.args.n (room c) (asks c) c.requires.1 c.loop-i.i h height below eh et
         (swept_low (releases_of c.args.n c.args.gone.now) c.requires.0.low)
 
 -- ---- the needs
 pub loop-i-init : goal.loop-i-init
 loop-i-init c =
-    let s = c in
-    let a = s.args in
-    going_start (lent_for a.staged.now a.refused.now a.floor) (window_of a.words.now) (swept_asks (releases_of a.n a.gone.now)) a.batch a.bytes
-    a.hashes.now a.heights.now a.index.now s.requires.0.index
-
-pub shape_of-hashes-then-is_full : goal.shape_of-hashes-then-is_full
-shape_of-hashes-then-is_full c = c.loop-i.invariant.long_hashes
-
-pub shape_of-heights-then-is_full : goal.shape_of-heights-then-is_full
-shape_of-heights-then-is_full c = c.loop-i.invariant.long_heights
-
-pub shape_of-index-then-is_full : goal.shape_of-index-then-is_full
-shape_of-index-then-is_full c = c.loop-i.invariant.long_index
+    going_start _ _ _ _ _ _ _ _ c.requires.0.index
 
 pub returns-then-is_full : goal.returns-then-is_full
 unfolding retries
@@ -64,25 +50,17 @@ returns-then-is_full c =
     let a = c.args in
     let l = d.loop-i in
     let below : l.i < a.n = c.loop-i-test.true in
-    going_stop (lent_for a.staged.now a.refused.now a.floor) (window_of a.words.now) (asks (goal.at.returns-then-is_full c).At-loop-i) a.batch a.bytes a.hashes.now a.heights.now a.index.now
-    l.hashes l.heights l.index l.count l.left l.low l.i l.invariant a.mean c.requires.1.1.1 (next_entry (goal.at.returns-then-is_full c).At-loop-i) (next d below) (sym c.is_full.ensures ∙ c.if-is_full.true)
+    going_stop _ _ _ _ _ _ _ _ _ _ _ _ _ _ _ l.invariant a.mean c.requires.2 (next_entry (goal.at.returns-then-is_full c).At-loop-i) (next d below) (sym c.is_full.ensures ∙ c.if-is_full.true)
 
 pub hash_at-h-requires : goal.hash_at-h-requires
 hash_at-h-requires c =
     let d = (goal.at.hash_at-h-requires c).At-loop-i in
-    (omega (arith, c.loop-i-test.true, room (goal.at.hash_at-h-requires c).At-loop-i), c.requires.0.long)
+    omega (arith, c.loop-i-test.true, room (goal.at.hash_at-h-requires c).At-loop-i)
 
 pub height_at-height-requires : goal.height_at-height-requires
 height_at-height-requires c =
     let d = (goal.at.height_at-height-requires c).At-loop-i in
-    (omega (arith, c.loop-i-test.true, room (goal.at.height_at-height-requires c).At-loop-i), c.requires.0.long)
-
-pub names-requires : goal.names-requires
-names-requires c = c.requires.0.refused_index
-
-pub lower_of-low-requires : goal.lower_of-low-requires
-lower_of-low-requires c =
-    low (goal.at.lower_of-low-requires c).At-loop-i c.loop-i-test.true c.hash_at-h.result c.height_at-height.result c.hash_at-h.ensures c.height_at-height.ensures
+    omega (arith, c.loop-i-test.true, room (goal.at.height_at-height-requires c).At-loop-i)
 
 pub loop-i-preserved-then-names : goal.loop-i-preserved-then-names
 unfolding is_refused
@@ -93,12 +71,8 @@ loop-i-preserved-then-names c =
     let h = c.hash_at-h in
     let t = c.height_at-height in
     let below : l.i < a.n = c.loop-i-test.true in
-    going_refused (lent_for a.staged.now a.refused.now a.floor) (window_of a.words.now) (asks (goal.at.loop-i-preserved-then-names c).At-loop-i) a.batch a.bytes a.hashes.now a.heights.now a.index.now
-    l.hashes l.heights l.index l.count l.left l.low l.i l.invariant a.mean c.requires.1.1.1 (ask h.result t.result) (is d below h.result t.result h.ensures t.ensures)
+    going_refused _ _ _ _ _ _ _ _ _ _ _ _ _ _ _ l.invariant a.mean c.requires.2 (ask h.result t.result) (is d below h.result t.result h.ensures t.ensures)
     (sym c.is_full.ensures ∙ c.if-is_full.false) c.lower_of-low.result (sym c.names.ensures ∙ c.if-names.true) c.lower_of-low.ensures
-
-pub is_passed_by-requires : goal.is_passed_by-requires
-is_passed_by-requires c = let p = c.requires.0 in ((p.whole, p.rises), p.staged_index)
 
 pub loop-i-preserved-then-is_passed_by : goal.loop-i-preserved-then-is_passed_by
 unfolding is_refused
@@ -109,8 +83,7 @@ loop-i-preserved-then-is_passed_by c =
     let h = c.hash_at-h in
     let t = c.height_at-height in
     let below : l.i < a.n = c.loop-i-test.true in
-    going_passed (lent_for a.staged.now a.refused.now a.floor) (window_of a.words.now) (asks (goal.at.loop-i-preserved-then-is_passed_by c).At-loop-i) a.batch a.bytes a.hashes.now a.heights.now a.index.now
-    l.hashes l.heights l.index l.count l.left l.low l.i l.invariant a.mean c.requires.1.1.1 (ask h.result t.result) (is d below h.result t.result h.ensures t.ensures)
+    going_passed _ _ _ _ _ _ _ _ _ _ _ _ _ _ _ l.invariant a.mean c.requires.2 (ask h.result t.result) (is d below h.result t.result h.ensures t.ensures)
     (sym c.is_full.ensures ∙ c.if-is_full.false) (sym c.names.ensures ∙ c.if-names.false) (sym c.is_passed_by.ensures ∙ c.if-is_passed_by.true)
 
 pub put_ask-requires : goal.put_ask-requires
@@ -151,19 +124,9 @@ loop-i-preserved c =
     let t = c.height_at-height in
     let put = c.put_ask in
     let below : l.i < a.n = c.loop-i-test.true in
-    going_taken (lent_for a.staged.now a.refused.now a.floor) (window_of a.words.now) (asks (goal.at.loop-i-preserved c).At-loop-i) a.batch a.bytes a.hashes.now a.heights.now a.index.now
-    l.hashes l.heights l.index l.count l.left l.low l.i l.invariant a.mean c.requires.1.1.1 (ask h.result t.result) (is d below h.result t.result h.ensures t.ensures)
+    going_taken _ _ _ _ _ _ _ _ _ _ _ _ _ _ _ l.invariant a.mean c.requires.2 (ask h.result t.result) (is d below h.result t.result h.ensures t.ensures)
     (sym c.is_full.ensures ∙ c.if-is_full.false) (sym c.names.ensures ∙ c.if-names.false) put.new.hashes put.new.heights put.new.index
     (sym c.is_passed_by.ensures ∙ c.if-is_passed_by.false) put.ensures.0 put.ensures.1.0 put.ensures.1.1 put.auto.hashes put.auto.heights put.auto.index
-
-pub shape_of-hashes : goal.shape_of-hashes
-shape_of-hashes c = c.loop-i.invariant.long_hashes
-
-pub shape_of-heights : goal.shape_of-heights
-shape_of-heights c = c.loop-i.invariant.long_heights
-
-pub shape_of-index : goal.shape_of-index
-shape_of-index c = c.loop-i.invariant.long_index
 
 pub returns : goal.returns
 unfolding retries
@@ -171,6 +134,5 @@ returns c =
     let d = (goal.at.returns c).At-loop-i in
     let a = c.args in
     let l = d.loop-i in
-    let many = asks_count a.gone.now a.keys.now a.n (room (goal.at.returns c).At-loop-i) (asks (goal.at.returns c).At-loop-i) c.requires.1.1.0 in
-    going_end (lent_for a.staged.now a.refused.now a.floor) (window_of a.words.now) (asks (goal.at.returns c).At-loop-i) a.batch a.bytes a.hashes.now a.heights.now a.index.now
-    l.hashes l.heights l.index l.count l.left l.low l.i l.invariant (omega (arith, c.loop-i-test.false, many))
+    let many = asks_count a.gone.now a.keys.now a.n (room (goal.at.returns c).At-loop-i) (asks (goal.at.returns c).At-loop-i) c.requires.1 in
+    going_end _ _ _ _ _ _ _ _ _ _ _ _ _ _ _ l.invariant (omega (arith, c.loop-i-test.false, many))

@@ -7,4 +7,4 @@ use Rattle.retries.proofs.retry.Given as goal
 
 abbrev pub invariant-loop-i : goal.invariant-loop-i
 invariant-loop-i l =
-    Going (lent_for l.staged l.refused l.floor) (window_of l.words) (swept_asks (releases_of l.n l.gone)) l.batch l.bytes l.initial.hashes l.initial.heights l.initial.index l.hashes l.heights l.index l.count l.left l.low l.i
+    Going (lent_for l.staged.hashes.now l.refused.hashes.now l.floor) (window_of l.words) (swept_asks (releases_of l.n l.gone)) l.batch l.bytes l.initial.hashes l.initial.heights l.initial.index l.hashes l.heights l.index l.count l.left l.low l.i

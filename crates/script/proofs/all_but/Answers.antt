@@ -5,5 +5,5 @@ use lib.ListN.{replicate}
 use lib.Seq.{set_out}
 use Rattle.script.proofs.all_but.Goals as goal
 
-pub returns-then-peer-ge256 : goal.returns-then-peer-ge256
-returns-then-peer-ge256 c = sym (set_out (replicate 256 1) c.args.peer 0 (omega (arith, c.if-peer-ge256.true)))
+pub returns-then-peer-ge-SEATS : goal.returns-then-peer-ge-SEATS
+returns-then-peer-ge-SEATS c = sym (set_out (replicate 256 1) c.args.peer 0 (omega (arith, c.if-peer-ge-SEATS.true)))

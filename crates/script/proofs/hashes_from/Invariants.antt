@@ -4,4 +4,4 @@ use Rattle.script.specs.Given.{hashes}
 use Rattle.script.proofs.hashes_from.Given as goal
 
 abbrev pub invariant-loop-i : goal.invariant-loop-i
-invariant-loop-i l = l.l ≡ hashes l.i l.first
+invariant-loop-i g l = l.l ≡ hashes g.row.WORDS l.i l.first

@@ -14,5 +14,5 @@ returns c =
     let at_call = c in
     let at-start = at_call in
     let ws = at-start.args.words.now in
-    let e : length (take 256 (drop 3328 ws)) - 0 ≡ 256 = omega (arith, (sized_decode ws at-start.requires).racers) in
-    racers_back ws at_call.clear_from.new.col _ at-start.requires (at_call.clear_from.ensures ∙ ap (λ (k : ℕ). replicate k 0) e) at_call.clear_from.auto.col
+    let e : length (take 256 (drop 3328 ws)) - 0 ≡ 256 = omega (arith, (sized_decode ws at-start.told-words).racers) in
+    racers_back ws at_call.clear_from.new.col _ at-start.told-words (at_call.clear_from.ensures ∙ ap (λ (k : ℕ). replicate k 0) e) at_call.clear_from.auto.col

@@ -8,4 +8,4 @@ unfolding decode
 returns c =
     let at_call = c in
     let at-start = at_call in
-    racers_back at-start.args.words.now at_call.keep_flagged.new.col _ at-start.requires.0 at_call.keep_flagged.ensures at_call.keep_flagged.auto.col
+    racers_back at-start.args.words.now at_call.keep_flagged.new.col _ at-start.told-words at_call.keep_flagged.ensures at_call.keep_flagged.auto.col

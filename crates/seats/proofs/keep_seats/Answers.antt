@@ -29,5 +29,5 @@ returns c =
     let a = c.args in
     let first = c.keep_flagged in
     let second = c.keep_flagged-2 in
-    kept_both (keep_seats (flagged a.flags.now) 0) a.words.now first.new.col second.new.col c.requires.0 first.auto.col first.ensures
+    kept_both (keep_seats (flagged a.flags.now) 0) a.words.now first.new.col second.new.col c.told-words first.auto.col first.ensures
     second.auto.col second.ensures

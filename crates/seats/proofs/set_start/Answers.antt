@@ -8,4 +8,4 @@ unfolding decode
 returns c =
     let at_call = c in
     let at-start = at_call in
-    starts_back at-start.args.words.now at_call.store.new.col _ at-start.requires.0 at_call.store.ensures at_call.store.auto.col
+    starts_back at-start.args.words.now at_call.store.new.col _ at-start.told-words at_call.store.ensures at_call.store.auto.col

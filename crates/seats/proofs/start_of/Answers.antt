@@ -6,4 +6,4 @@ use Rattle.seats.proofs.start_of.Goals as goal
 
 pub returns : goal.returns
 unfolding decode
-returns c = sym (seat_word 2304 c.args.seat c.args.words.now c.requires.1)
+returns c = sym (seat_word 2304 c.args.seat c.args.words.now c.requires)

@@ -4,4 +4,4 @@ use Rattle.state.proofs.get_attempted.Goals as goal
 
 pub returns : goal.returns
 unfolding window_of read
-returns c = c.load_attempted.ensures
+returns c = c.load_source.ensures

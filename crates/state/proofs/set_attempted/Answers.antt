@@ -1,4 +1,5 @@
 -- `state::set_attempted` meets its contract. Assumes nothing.
+use native.Mathlib.Omega.{arith}
 use mathlib.Core.List.{[], ◌∷◌}
 use Rattle.model.specs.Layout.{window_of, source_word}
 use Rattle.laws.specs.Tables.{with_words}
@@ -11,4 +12,4 @@ returns c =
     let start = c in
     let ws = start.args.words.now in
     let whole = start.requires.0 in
-    lifted ws _ (with_words 26 (source_word start.args.x ∷ [])) _ whole c.store_attempted.auto.words c.store_attempted.ensures (attempted_in (window_of ws) start.args.x) (words_shaped ws whole.long)
+    lifted ws _ (with_words 26 (source_word start.args.x ∷ [])) _ whole (omega arith) c.store_source.ensures (attempted_in (window_of ws) start.args.x) (words_shaped ws whole.long)

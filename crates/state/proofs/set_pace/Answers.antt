@@ -1,4 +1,5 @@
 -- `state::set_pace` meets its contract. Assumes nothing.
+use native.Mathlib.Omega.{arith}
 use Rattle.model.specs.Layout.{window_of}
 use Rattle.laws.specs.Tables.{with_words}
 use Rattle.laws.specs.Whole.{lifted, words_shaped}
@@ -12,4 +13,4 @@ returns c =
     let start = c in
     let ws = start.args.words.now in
     let whole = start.requires in
-    lifted ws _ (with_words 22 (pace_list start.args.p)) _ whole c.store_pace.auto.words c.store_pace.ensures (pace_in (window_of ws) start.args.p) (words_shaped ws whole.long)
+    lifted ws _ (with_words 22 (pace_list start.args.p)) _ whole (omega arith) c.store_pace.ensures (pace_in (window_of ws) start.args.p) (words_shaped ws whole.long)

@@ -1,4 +1,5 @@
 -- `state::set_stuck` meets its contract. Assumes nothing.
+use native.Mathlib.Omega.{arith}
 use Rattle.model.specs.Layout.{window_of, stuck_words}
 use Rattle.laws.specs.Tables.{with_words}
 use Rattle.laws.specs.Whole.{lifted, words_shaped}
@@ -10,4 +11,4 @@ returns c =
     let start = c in
     let ws = start.args.words.now in
     let whole = start.requires.0 in
-    lifted ws _ (with_words 33 (stuck_words start.args.x)) _ whole c.store_stuck.auto.words c.store_stuck.ensures (stuck_in (window_of ws) start.args.x) (words_shaped ws whole.long)
+    lifted ws _ (with_words 33 (stuck_words start.args.x)) _ whole (omega arith) c.store_stuck.ensures (stuck_in (window_of ws) start.args.x) (words_shaped ws whole.long)

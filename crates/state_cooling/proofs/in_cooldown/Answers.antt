@@ -12,8 +12,8 @@ pub is_cooling-requires : goal.is_cooling-requires
 unfolding key_of window_of read decode
 is_cooling-requires c =
     let ws = c.args.words.now in
-    let long = c.requires.0 in
-    ((sized_decode ws long).cooling, subst (λ (k : ℕ). k ≤ max_seat) (sym c.key_of-key.ensures) c.requires.1.1.1, c.requires.1.1.0)
+    let long = c.told-words in
+    ((sized_decode ws long).cooling, subst (λ (k : ℕ). k ≤ max_seat) (sym c.key_of-key.ensures) c.requires.2, c.requires.1)
 
 pub returns : goal.returns
 returns c =

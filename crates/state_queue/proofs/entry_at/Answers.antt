@@ -8,7 +8,7 @@ pub entry_of-requires : goal.entry_of-requires
 entry_of-requires c =
     let ws = c.args.words.now in
     let whole = c.requires.0 in
-    (whole.long, omega (arith, few ws whole, c.requires.1))
+    omega (arith, few ws whole, c.requires.1)
 
 pub returns : goal.returns
 returns c =

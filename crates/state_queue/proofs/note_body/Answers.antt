@@ -1,4 +1,5 @@
 -- `state_queue::note_body` meets its contract. Assumes nothing.
+use native.Mathlib.Omega.{arith}
 use mathlib.Core.Path.{refl}
 use Prim.Native.Nat.{suc}
 use lib.ListN.{set}
@@ -15,5 +16,5 @@ returns c =
     let ws = c.args.words.now in
     let whole = c.requires.0 in
     let a = c.args in
-    seated ws whole _ (λ t. with_bodies (set t.bodies a.source (suc a.clock)) t) _ _ c.note_body.auto.words c.note_body.ensures
+    seated ws whole _ (λ t. with_bodies (set t.bodies a.source (suc a.clock)) t) _ _ (omega arith) c.note_body.ensures
     (body_in (window_of ws) a.source a.clock) refl (length-set (window_of ws).queue.bodies a.source _)

@@ -23,16 +23,12 @@ insert-requires c =
     let ws = c.args.words.now in
     let whole = c.requires.0 in
     let at_count = c in
-    let n : at_count.word_of-n.result ≡ length (window_of ws).queue.pending = at_count.word_of-n.ensures ∙ count_is ws whole in (
-      whole.long,
-      omega (arith, n, c.requires.1.1.0),
-      omega (arith, n, c.requires.1.0),
-      blank_after ws whole at_count.word_of-n.result n,
-    )
+    let n : at_count.word_of-n.result ≡ length (window_of ws).queue.pending = at_count.word_of-n.ensures ∙ count_is ws whole in
+    (omega (arith, n, c.requires.1.1.0), omega (arith, n, c.requires.1.0), blank_after ws whole at_count.word_of-n.result n)
 
 pub returns : goal.returns
 returns c =
     let ws = c.args.words.now in
     let whole = c.requires.0 in
     given ws whole _ _ _ c.args.at c.args.e c.word_of-total.result c.word_of-n.result c.word_of-total.ensures c.word_of-n.ensures c.requires.1.0 c.requires.1.1.0
-    c.insert.ensures c.set_word.ensures c.set_word-2.ensures (c.set_word-2.auto.words ∙ c.set_word.auto.words ∙ c.insert.auto.words)
+    c.insert.ensures c.set_word.ensures c.set_word-2.ensures (omega arith)

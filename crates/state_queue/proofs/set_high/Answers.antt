@@ -1,4 +1,5 @@
 -- `state_queue::set_high` meets its contract. Assumes nothing.
+use native.Mathlib.Omega.{arith}
 use mathlib.Core.List.{[], ◌∷◌}
 use Rattle.model.specs.Layout.{window_of}
 use Rattle.laws.specs.Tables.{with_words}
@@ -12,5 +13,5 @@ returns c =
     let ws = start.args.words.now in
     let blocks = start.args.blocks in
     let bytes = start.args.bytes in
-    lifted ws _ (with_words 4 (blocks ∷ bytes ∷ [])) _ start.requires c.store_at.auto.words c.store_at.ensures
+    lifted ws _ (with_words 4 (blocks ∷ bytes ∷ [])) _ start.requires (omega arith) c.store_at.ensures
     (high_in (window_of ws) (record { blocks = blocks; bytes = bytes })) (words_shaped ws start.requires.long)

@@ -24,16 +24,12 @@ remove-requires c =
     let ws = c.args.words.now in
     let whole = c.requires.0 in
     let at_count = c in
-    let n : at_count.word_of-n.result ≡ length (window_of ws).queue.pending = at_count.word_of-n.ensures ∙ count_is ws whole in (
-      whole.long,
-      omega (arith, n, few ws whole),
-      omega (arith, n, c.requires.1.0),
-      blank_after ws whole at_count.word_of-n.result n,
-    )
+    let n : at_count.word_of-n.result ≡ length (window_of ws).queue.pending = at_count.word_of-n.ensures ∙ count_is ws whole in
+    (omega (arith, n, few ws whole), omega (arith, n, c.requires.1.0), blank_after ws whole at_count.word_of-n.result n)
 
 pub returns : goal.returns
 returns c =
     let ws = c.args.words.now in
     let whole = c.requires.0 in
     taken ws whole _ _ _ c.args.at c.entry_at-e.result c.word_of-total.result c.word_of-n.result c.entry_at-e.ensures c.word_of-total.ensures c.word_of-n.ensures c.requires.1.0
-    c.remove.ensures c.set_word.ensures c.set_word-2.ensures (c.set_word-2.auto.words ∙ c.set_word.auto.words ∙ c.remove.auto.words)
+    c.remove.ensures c.set_word.ensures c.set_word-2.ensures (omega arith)

@@ -1,4 +1,5 @@
 -- `state_races::clear_racers` meets its contract. Assumes nothing.
+use native.Mathlib.Omega.{arith}
 use Prim.Native.Nat.{ℕ}
 use lib.ListN.{length-replicate}
 use Rattle.model.specs.Window.{no_seats}
@@ -13,4 +14,4 @@ returns c =
     let start = c in
     let ws = start.args.words.now in
     let whole = start.requires in
-    lifted ws _ (with_racers no_seats) _ whole c.clear_racers.auto.words c.clear_racers.ensures (racers_in (window_of ws) no_seats) ((let s = words_shaped ws whole.long in record { few = s.few; starts = s.starts; bodies = s.bodies; keys = s.keys; cooling = s.cooling; racers = length-replicate {A = ℕ} 256 0; hedged = s.hedged; planned = s.planned }))
+    lifted ws _ (with_racers no_seats) _ whole (omega arith) c.clear_racers.ensures (racers_in (window_of ws) no_seats) ((let s = words_shaped ws whole.long in record { few = s.few; starts = s.starts; bodies = s.bodies; keys = s.keys; cooling = s.cooling; racers = length-replicate {A = ℕ} 256 0; hedged = s.hedged; planned = s.planned }))

@@ -7,7 +7,7 @@ use Rattle.state_races.proofs.is_hedged.Goals as goal
 pub is_listed-requires : goal.is_listed-requires
 is_listed-requires c =
     let a = c in
-    (a.requires.long, omega (arith, c.hedged_count-n.ensures, (words_shaped a.args.words.now a.requires.long).hedged))
+    omega (arith, c.hedged_count-n.ensures, (words_shaped a.args.words.now a.requires.long).hedged)
 
 pub returns : goal.returns
 returns c =

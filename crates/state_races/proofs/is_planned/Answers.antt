@@ -7,7 +7,7 @@ use Rattle.state_races.proofs.is_planned.Goals as goal
 pub is_listed-requires : goal.is_listed-requires
 is_listed-requires c =
     let a = c in
-    (a.requires.long, omega (arith, c.planned_count-n.ensures, (words_shaped a.args.words.now a.requires.long).planned))
+    omega (arith, c.planned_count-n.ensures, (words_shaped a.args.words.now a.requires.long).planned)
 
 pub returns : goal.returns
 returns c =

@@ -5,13 +5,14 @@ use Rattle.state_races.specs.Hedges.{planned_few, planned_at}
 use Rattle.state_races.proofs.planned_hash.Goals as goal
 
 pub overflow_mul-k : goal.overflow_mul-k
-overflow_mul-k c = let a = c in omega (arith, planned_few a.args.words.now a.requires.0 a.args.i a.requires.1)
+overflow_mul-k c = let a = c in omega (arith, planned_few a.args.words.now a.told-words a.args.i a.requires)
 
 pub overflow_add-k : goal.overflow_add-k
-overflow_add-k c = let a = c in omega (arith, planned_few a.args.words.now a.requires.0 a.args.i a.requires.1)
+overflow_add-k c = let a = c in omega (arith, planned_few a.args.words.now a.told-words a.args.i a.requires)
 
 pub hash_of-requires : goal.hash_of-requires
-hash_of-requires c = let a = c in (a.requires.0, omega (arith, planned_few a.args.words.now a.requires.0 a.args.i a.requires.1))
+hash_of-requires c = let a = c in
+    omega (arith, planned_few a.args.words.now a.told-words a.args.i a.requires)
 
 pub returns : goal.returns
-returns c = let a = c in c.hash_of.ensures ∙ planned_at a.args.words.now a.requires.0 a.args.i a.requires.1
+returns c = let a = c in c.hash_of.ensures ∙ planned_at a.args.words.now a.told-words a.args.i a.requires

@@ -1,4 +1,5 @@
 -- `state_races::push_hedged` meets its contract. Assumes nothing.
+use native.Mathlib.Omega.{arith}
 use mathlib.Core.Path.{ap, ◌∙◌}
 use mathlib.Core.List.{List, [], ◌∷◌, ◌++◌}
 use Prim.Native.Nat.{ℕ}
@@ -21,6 +22,6 @@ returns c =
     let is = pushed_is hs c.word_of-n.result c.hash_of-g.result h (c.word_of-n.ensures ∙ hedged_count ws whole)
     (λ b. c.hash_of-g.ensures ∙ hedged_at ws whole.long 0 b) start.requires.1 in
     let few = length_pushed hs h start.requires.1 in
-    lifted ws _ (with_words 46 (hedged_words (hs ++ (h ∷ [])))) _ whole c.store_at.auto.words
+    lifted ws _ (with_words 46 (hedged_words (hs ++ (h ∷ [])))) _ whole (omega arith)
     (c.store_at.ensures ∙ ap (λ (l : List ℕ). with_words 46 l (decode ws)) (c.pushed_list-l.ensures ∙ ap hedged_words is)) (hedged_in w s (hs ++ (h ∷ [])) few)
     (record { few = s.few; starts = s.starts; bodies = s.bodies; keys = s.keys; cooling = s.cooling; racers = s.racers; hedged = few; planned = s.planned })

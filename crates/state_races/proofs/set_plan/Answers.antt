@@ -18,5 +18,5 @@ returns c =
     let p = start.requires.1.1 in
     let w = window_of ws in
     let s = words_shaped ws whole.long in
-    lifted ws _ (λ t. with_words 65 l (with_words 61 (probe_words x n) t)) _ whole (c.store_at.auto.words ∙ c.store_probe.auto.words) (c.store_at.ensures ∙ ap (with_words 65 l) c.store_probe.ensures)
+    lifted ws _ (λ t. with_words 65 l (with_words 61 (probe_words x n) t)) _ whole (omega arith) (c.store_at.ensures ∙ ap (with_words 65 l) c.store_probe.ensures)
     (planned_in n l p w s x) (record { few = s.few; starts = s.starts; bodies = s.bodies; keys = s.keys; cooling = s.cooling; racers = s.racers; hedged = s.hedged; planned = omega (arith, plan_count n l p, p.few) })

@@ -1,4 +1,5 @@
 -- `state_races::set_probe` meets its contract. Assumes nothing.
+use native.Mathlib.Omega.{arith}
 use mathlib.Core.Path.{ap, ◌∙◌}
 use Prim.Native.Nat.{ℕ}
 use Rattle.model.specs.Layout.{window_of, table, probe_words}
@@ -16,5 +17,5 @@ returns c =
     let x = start.args.x in
     let w = window_of ws in
     let s = words_shaped ws whole.long in
-    lifted ws _ (with_words 61 (probe_words x c.word_of-n.result)) _ whole c.store_probe.auto.words c.store_probe.ensures
+    lifted ws _ (with_words 61 (probe_words x c.word_of-n.result)) _ whole (omega arith) c.store_probe.ensures
     (ap (λ (n : ℕ). with_words 61 (probe_words x n) (table w)) (c.word_of-n.ensures ∙ planned_count ws whole) ∙ probe_in w s x) s

@@ -10,10 +10,7 @@ use Rattle.sweep.proofs.expire_pending.Goals as goal
 pub let_go-n-requires : goal.let_go-n-requires
 let_go-n-requires c =
     let a = c.args in
-    (c.requires.0, (sound_ranged a.clock (window_of a.words.now) c.requires.1.0, (c.requires.1.1, (search rules, c.requires.1.0.clock))))
-
-pub get_observation-o-requires : goal.get_observation-o-requires
-get_observation-o-requires c = c.let_go-n.ensures.1.whole.long
+    (c.requires.0, sound_ranged a.clock (window_of a.words.now) c.requires.1, c.requires.1.clock)
 
 pub set_observation-requires : goal.set_observation-requires
 set_observation-requires c = c.let_go-n.ensures.1.whole

@@ -4,10 +4,10 @@ use Rattle.model.specs.Time.{expired, owner_download_expired, peer_has_expired_p
 use Rattle.sweep.proofs.peer_has_expired_pending.Goals as goal
 
 pub timeout_of-timeout-requires : goal.timeout_of-timeout-requires
-timeout_of-timeout-requires c = (c.requires.0.long, c.requires.1.0.settings)
+timeout_of-timeout-requires c = c.requires.1.0.settings
 
 pub start_of-start-requires : goal.start_of-start-requires
-start_of-start-requires c = (c.requires.0.long, c.requires.1.1)
+start_of-start-requires c = c.requires.1.1
 
 pub expired-requires : goal.expired-requires
 expired-requires c = c.requires.1.0.clock

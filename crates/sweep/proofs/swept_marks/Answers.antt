@@ -10,12 +10,12 @@ use Rattle.laws.specs.Pending.{sound_ranged}
 use Rattle.sweep.proofs.swept_marks.Goals as goal
 
 pub timeout_of-timeout-requires : goal.timeout_of-timeout-requires
-timeout_of-timeout-requires c = (c.requires.0.long, c.requires.1.settings)
+timeout_of-timeout-requires c = c.requires.1.settings
 
 pub sweep_marks-requires : goal.sweep_marks-requires
 sweep_marks-requires c =
     let a = c.args in
-    (c.requires.0.long, (c.pending_count-count.ensures.0, (ap (λ (p : Pace). p.wait) c.get_pace-pace.ensures, (sound_ranged a.clock (window_of a.words.now) c.requires.1, c.requires.1.clock))))
+    (c.pending_count-count.ensures.0, ap (λ (p : Pace). p.wait) c.get_pace-pace.ensures, sound_ranged a.clock (window_of a.words.now) c.requires.1, c.requires.1.clock)
 
 pub returns : goal.returns
 returns c =

@@ -7,7 +7,7 @@ use Rattle.sweep.proofs.timeout_of.Goals as goal
 pub owner_timeout-requires : goal.owner_timeout-requires
 owner_timeout-requires c =
     let a = c.args in
-    (rw c.get_settings-s.ensures (spacing_le _ c.requires.1), rw c.active_peers-n.ensures (active_le a.words.now c.requires.0))
+    (rw c.get_settings-s.ensures (spacing_le _ c.requires), rw c.active_peers-n.ensures (active_le a.words.now c.told-words))
 
 pub returns : goal.returns
 unfolding effective_owner_timeout

@@ -10,4 +10,4 @@ returns-then-timeout-eq0 c = rw (eq-eqb c.args.timeout 0 (omega (arith, c.if-tim
 
 pub returns : goal.returns
 unfolding expiry_limit
-returns c = rw (ne_eqb c.args.timeout 0 (λ e. c.if-timeout-eq0.false (omega (arith, e)))) (omega (arith, c.minus.ensures))
+returns c = rw (ne_eqb c.args.timeout 0 (λ e. c.if-timeout-eq0.false (omega (arith, e)))) (omega (arith, c.saturating_sub.ensures))

@@ -1,9 +1,10 @@
 -- `window::credit_delivery_from` meets its contract: the core's promise, by the laws of every call that lets go. Assumes nothing.
+use native.Mathlib.Omega.{arith}
 use Rattle.letting_go.specs.Letting.{lets_fewer, lets_performs}
 use Rattle.window.proofs.credit_delivery_from.Goals as goal
 
 pub write_report-m-requires : goal.write_report-m-requires
-write_report-m-requires c = lets_fewer _ _ _ _ _ _ _ c.credit_delivery_from-r.ensures _ c.places_of-n.ensures c.credit_delivery_from-r.auto.gone
+write_report-m-requires c = lets_fewer _ _ _ _ _ _ _ c.credit_delivery_from-r.ensures _ c.places_of-n.ensures (omega arith)
 
 pub returns : goal.returns
 returns c = lets_performs _ _ _ _ _ _ _ c.credit_delivery_from-r.ensures _ c.places_of-n.ensures _ c.write_report-m.ensures.1

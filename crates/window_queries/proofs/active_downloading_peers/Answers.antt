@@ -1,15 +1,12 @@
 -- `window_queries::active_downloading_peers` meets its contract. Assumes nothing.
-use mathlib.Core.Path.{refl, ap}
-use Rattle.refusals.specs.Outcomes.{admitted}
-use Rattle.refusals.specs.Passed.{query_passed, query_told}
+use mathlib.Core.Path.{ap}
+use Rattle.refusals.specs.Arrays.{query_told_in}
+use Rattle.refusals.specs.Passed.{query_passed}
 use Rattle.window_queries.specs.Asks.{number}
 use Rattle.window_queries.proofs.active_downloading_peers.Goals as goal
 
-pub returns-in_err-refused_by : goal.returns-in_err-refused_by
-returns-in_err-refused_by c = query_passed _ _ c.from_residual.ensures.1 _ _ _ c.in_err-refused_by.ensures
-
-pub active_peers-requires : goal.active_peers-requires
-active_peers-requires c = (admitted _ _ 0 0 c.in_ok-refused_by.ensures refl).whole.long
+pub returns-in_err-words : goal.returns-in_err-words
+returns-in_err-words c = query_passed _ _ c.from_residual.ensures.1 _ _ _ c.in_err-words.ensures.refusal
 
 pub returns : goal.returns
-returns c = query_told _ _ _ c.in_ok-refused_by.ensures (ap number c.active_peers.ensures)
+returns c = query_told_in _ _ c.in_ok-words.ensures.same _ _ c.in_ok-words.ensures.refusal (ap number c.active_peers.ensures)

@@ -1,15 +1,15 @@
 -- `window_queries::has_request_capacity` meets its contract. Assumes nothing.
-use mathlib.Core.Path.{refl, ap}
-use Rattle.refusals.specs.Outcomes.{admitted}
-use Rattle.refusals.specs.Passed.{query_passed, query_told}
+use mathlib.Core.Path.{ap}
+use Rattle.refusals.specs.Arrays.{admitted_in, query_told_in}
+use Rattle.refusals.specs.Passed.{query_passed}
 use Rattle.window_queries.specs.Asks.{truth}
 use Rattle.window_queries.proofs.has_request_capacity.Goals as goal
 
-pub returns-in_err-refused_by : goal.returns-in_err-refused_by
-returns-in_err-refused_by c = query_passed _ _ c.from_residual.ensures.1 _ _ _ c.in_err-refused_by.ensures
+pub returns-in_err-words : goal.returns-in_err-words
+returns-in_err-words c = query_passed _ _ c.from_residual.ensures.1 _ _ _ c.in_err-words.ensures.refusal
 
 pub has_request_capacity-requires : goal.has_request_capacity-requires
-has_request_capacity-requires c = (admitted _ _ 0 0 c.in_ok-refused_by.ensures refl).whole
+has_request_capacity-requires c = (admitted_in _ _ c.in_ok-words.ensures.same _ 0 c.in_ok-words.ensures.refusal).whole
 
 pub returns : goal.returns
-returns c = query_told _ _ _ c.in_ok-refused_by.ensures (ap truth c.has_request_capacity.ensures)
+returns c = query_told_in _ _ c.in_ok-words.ensures.same _ _ c.in_ok-words.ensures.refusal (ap truth c.has_request_capacity.ensures)

@@ -1,15 +1,15 @@
 -- `window_queries::pending_count_for` meets its contract. Assumes nothing.
-use mathlib.Core.Path.{refl, ap}
-use Rattle.refusals.specs.Outcomes.{admitted}
-use Rattle.refusals.specs.Passed.{query_passed, query_told}
+use mathlib.Core.Path.{ap}
+use Rattle.refusals.specs.Arrays.{admitted_in, query_told_in}
+use Rattle.refusals.specs.Passed.{query_passed}
 use Rattle.window_queries.specs.Asks.{number}
 use Rattle.window_queries.proofs.pending_count_for.Goals as goal
 
-pub returns-in_err-refused_by : goal.returns-in_err-refused_by
-returns-in_err-refused_by c = query_passed _ _ c.from_residual.ensures.1 _ _ _ c.in_err-refused_by.ensures
+pub returns-in_err-words : goal.returns-in_err-words
+returns-in_err-words c = query_passed _ _ c.from_residual.ensures.1 _ _ _ c.in_err-words.ensures.refusal
 
 pub pending_count_for-requires : goal.pending_count_for-requires
-pending_count_for-requires c = (admitted _ _ 0 0 c.in_ok-refused_by.ensures refl).whole
+pending_count_for-requires c = (admitted_in _ _ c.in_ok-words.ensures.same _ 0 c.in_ok-words.ensures.refusal).whole
 
 pub returns : goal.returns
-returns c = query_told _ _ _ c.in_ok-refused_by.ensures (ap number c.pending_count_for.ensures)
+returns c = query_told_in _ _ c.in_ok-words.ensures.same _ _ c.in_ok-words.ensures.refusal (ap number c.pending_count_for.ensures)

@@ -1,18 +1,18 @@
 -- `window_queries::pending_owner` meets its contract. Assumes nothing.
-use mathlib.Core.Path.{refl, ap}
+use mathlib.Core.Path.{ap}
 use Rattle.model.specs.Perform.{says}
 use Rattle.laws.specs.Whole.{sound_rises}
-use Rattle.refusals.specs.Outcomes.{admitted}
-use Rattle.refusals.specs.Passed.{query_passed, query_told}
+use Rattle.refusals.specs.Arrays.{admitted_in, query_told_in}
+use Rattle.refusals.specs.Passed.{query_passed}
 use Rattle.window_queries.proofs.pending_owner.Goals as goal
 
-pub returns-in_err-refused_by : goal.returns-in_err-refused_by
-returns-in_err-refused_by c = query_passed _ _ c.from_residual.ensures.1 _ _ _ c.in_err-refused_by.ensures
+pub returns-in_err-words : goal.returns-in_err-words
+returns-in_err-words c = query_passed _ _ c.from_residual.ensures.1 _ _ _ c.in_err-words.ensures.refusal
 
 pub pending_owner-requires : goal.pending_owner-requires
 pending_owner-requires c =
-    let g = admitted _ _ 0 0 c.in_ok-refused_by.ensures refl in
+    let g = admitted_in _ _ c.in_ok-words.ensures.same _ 0 c.in_ok-words.ensures.refusal in
     (g.whole, sound_rises _ _ g.sound)
 
 pub returns : goal.returns
-returns c = query_told _ _ _ c.in_ok-refused_by.ensures (ap (says 0) c.pending_owner.ensures)
+returns c = query_told_in _ _ c.in_ok-words.ensures.same _ _ c.in_ok-words.ensures.refusal (ap (says 0) c.pending_owner.ensures)

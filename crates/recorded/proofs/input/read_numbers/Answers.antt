@@ -1,5 +1,5 @@
 -- `recorded::input::read_numbers` meets its contract: at the loop's head the numbers of the bytes that are left are still to be put. Assumes nothing.
-use Rattle.std.proofs.Common.{◌≡◌, ℕ, suc, ◌+◌, ◌-◌, ◌<◌, ◌≤◌, List, length, get_or, drop, sym, refl, ap, ◌∙◌, arith, drop_of_length-le, drop-cons}
+use Rattle.std.proofs.Common.{◌≡◌, ℕ, suc, ◌+◌, ◌<◌, ◌≤◌, List, length, get_or, drop, sym, refl, ap, ◌∙◌, arith, drop_of_length-le, drop-cons}
 use Rattle.recorded.specs.Input.{left_after, value_after, emitted, numbers_from, put_at}
 use Rattle.recorded.proofs.input.read_numbers.Goals as goal
 
@@ -26,14 +26,13 @@ pub loop-b-preserved : goal.loop-b-preserved
 loop-b-preserved c =
     let a = c.args in
     let v = c.loop-b in
-    let l = c.left_after-left in
-    let x = c.value_after-value in
+    let x = c.after-begun in
     let k = c.kept-n in
-    let e = one_more a.bytes.now v.b-index v.left v.value l.result x.result (omega arith) l.ensures x.ensures in
-    v.invariant ∙ ap (λ (ns : List ℕ). put_at v.n ns v.out) e ∙ sym (k.ensures.1 (numbers_from l.result x.result (drop (v.b-index + 1) a.bytes.now)))
+    let e = one_more a.bytes.now v.b-index v.begun.left v.begun.value x.result.left x.result.value (omega arith) x.ensures.0 x.ensures.1 in
+    v.invariant ∙ ap (λ (ns : List ℕ). put_at v.n ns v.out) e ∙ sym (k.ensures.1 (numbers_from x.result.left x.result.value (drop (v.b-index + 1) a.bytes.now)))
 
 pub returns : goal.returns
 returns c =
     let a = c.args in
     let v = c.loop-b in
-    sym (v.invariant ∙ none_left a.bytes.now v.b-index v.left v.value v.n v.out (omega arith))
+    sym (v.invariant ∙ none_left a.bytes.now v.b-index v.begun.left v.begun.value v.n v.out (omega arith))

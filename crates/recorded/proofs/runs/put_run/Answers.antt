@@ -10,18 +10,18 @@ loop-i-init c = upto_start _ _
 
 pub loop-i-preserved : goal.loop-i-preserved
 loop-i-preserved c =
-    let a = c.args in
+    let r = c.args.run in
     let v = c.loop-i in
     let w = c.word_after in
-    let x : w.result ≡ new a.numbers.now a.at v.i (get_or v.words v.i 0) =
+    let x : w.result ≡ new r.numbers.now r.at v.i (get_or v.words v.i 0) =
     w.ensures
-    ∙ ap (λ (k : ℕ). word_after a.numbers.now a.at k c.nth-n.result v.i (get_or v.words v.i 0)) c.get-first.ensures
-    ∙ ap (λ (k : ℕ). word_after a.numbers.now a.at (get_or a.numbers.now a.at 0) k v.i (get_or v.words v.i 0)) c.nth-n.ensures in
-    upto_step (new a.numbers.now a.at) a.words.now v.words v.i w.result (omega arith) v.invariant x
+    ∙ ap (λ (k : ℕ). word_after r.numbers.now r.at k c.nth-n.result v.i (get_or v.words v.i 0)) c.get-first.ensures
+    ∙ ap (λ (k : ℕ). word_after r.numbers.now r.at (get_or r.numbers.now r.at 0) k v.i (get_or v.words v.i 0)) c.nth-n.ensures in
+    upto_step (new r.numbers.now r.at) c.args.words.now v.words v.i w.result (omega arith) v.invariant x
 
 pub returns : goal.returns
 unfolding run_put
 returns c =
-    let a = c.args in
+    let r = c.args.run in
     let v = c.loop-i in
-    upto_done (new a.numbers.now a.at) a.words.now v.words v.i (omega arith) v.invariant
+    upto_done (new r.numbers.now r.at) c.args.words.now v.words v.i (omega arith) v.invariant

@@ -9,4 +9,4 @@ abbrev pub new : List ℕ → ℕ → ℕ → ℕ → ℕ
 new ns place = word_after ns place (get_or ns place 0) (nth ns place 1)
 
 abbrev pub invariant-loop-i : goal.invariant-loop-i
-invariant-loop-i l = Upto (new l.numbers l.at) l.initial.words l.i l.words
+invariant-loop-i l = Upto (new l.run.numbers.now l.run.at) l.initial.words l.i l.words

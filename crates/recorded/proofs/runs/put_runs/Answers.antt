@@ -1,5 +1,5 @@
 -- `recorded::runs::put_runs` meets its contract: at the loop's head the runs that are left are still to be put. Assumes nothing.
-use Rattle.std.proofs.Common.{◌≡◌, ℕ, zero, suc, ◌+◌, ◌-◌, ◌<◌, ◌≤◌, true, false, cond, List, sym, refl, ap, ◌∙◌, not-suc-le-zero, arith, le-leb}
+use Rattle.std.proofs.Common.{◌≡◌, ℕ, zero, suc, ◌+◌, ◌-◌, ◌<◌, ◌≤◌, cond, List, sym, refl, ap, ◌∙◌, not-suc-le-zero, arith, le-leb}
 use borrow.Author.Tests.{lt-leb}
 use Rattle.recorded.specs.Records.{run_put, next_run, runs_put}
 use Rattle.recorded.proofs.runs.put_runs.Goals as goal

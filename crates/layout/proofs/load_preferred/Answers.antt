@@ -1,7 +1,0 @@
--- `layout::load_preferred` meets its contract. Assumes nothing.
-use mathlib.Core.Path.{ap, ◌∙◌}
-use Rattle.model.specs.Layout.{source_of}
-use Rattle.layout.proofs.load_preferred.Goals as goal
-
-pub returns : goal.returns
-returns c = c.source_of.ensures ∙ ap source_of c.word_of-s.ensures

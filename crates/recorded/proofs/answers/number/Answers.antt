@@ -1,7 +1,0 @@
--- `recorded::answers::number` meets its contract. Assumes nothing.
-use Rattle.std.proofs.Common.{ap, ◌∙◌}
-use Rattle.recorded.specs.Said.{number_row}
-use Rattle.recorded.proofs.answers.number.Goals as goal
-
-pub returns : goal.returns
-returns c = c.number_row.ensures ∙ ap number_row c.of_number.ensures

@@ -1,9 +1,0 @@
--- `states::store_cold` meets its contract. Assumes nothing.
-use native.Mathlib.Omega.{arith}
-use Rattle.states.proofs.store_cold.Goals as goal
-
-pub slice_bounds-store_at-end : goal.slice_bounds-store_at-end
-slice_bounds-store_at-end c = omega arith
-
-pub returns : goal.returns
-returns c = cc
