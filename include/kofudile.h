@@ -3,8 +3,8 @@
  *
  * For C99 and C++11 or later. Link libkofudile.a (x86-64, System V calls): dist/ has it ready, `make install` puts it beside this header, with kofudile.pc
  * for pkg-config. It keeps nothing of its own: no globals, no allocation, no clock, no threads. All state is in 4,096 words that the host lends with
- * each call. include/example.c is a whole host. It calls memcpy, memmove and memset, which the compiler's back end puts in, and nothing else: a
- * freestanding host supplies these three.
+ * each call. include/example.c is a whole host. It calls memmove and memset, which the compiler's back end puts in, and nothing else; an archive of
+ * another version may call memcpy too: a freestanding host supplies these three.
  *
  * A file that includes this header links only with an archive of the same ABI: the linker else misses kofudile_abi_1.
  *

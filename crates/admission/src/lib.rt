@@ -41,6 +41,7 @@ fn is_in_time(last: u64, clock: Option<u64>) -> bool
 }
 
 // 2, 3, 4, 6.
+#[inline]
 fn refused_by(
     words: &Words,
     room: Option<usize>,
@@ -66,6 +67,7 @@ fn refused_by(
 
 // What a call or a query is refused by: 1, 2, 3 where it has a report, of `room` places, 4 where it has a clock, 6. Where nothing refuses, the words as they are,
 // an array.
+#[inline]
 pub fn admitted(
     words: &[u64],
     room: Option<usize>,

@@ -63,7 +63,7 @@ pub fn reject_delivery(
     let owns = is_owner(source, front);
     deliveries::rejected_by(words, source, h);
     if owns {
-        let n = release::remove_pending(words, gone, h, Reason::OwnerRejection, clock);
+        let n = release::remove_pending_by(words, gone, h, Reason::OwnerRejection, clock);
         return Rejected::ReleasedPending(n as u64);
     }
     Rejected::DiscardedUnsolicited

@@ -149,7 +149,7 @@ fn raced(since: u64) -> u64
 
 // The tables, in one loop with no exit.
 fn seats(w: &Words, first: &[u64; sizes::SEATS]) -> bool
-    requires w_len { (length w.now ≡ 4096) × (clock w.now ≤ 4611686018427387904) }
+    requires in_time { clock w.now ≤ 4611686018427387904 }
     requires by_index { (s : ℕ) → slice_index first.now s ≡ oldest_of w.now s (count w.now) }
     requires by_index_2 { (s : ℕ) → slice_index first.now s < 2 ^ 63 }
     ensures { result ≡ seats_fit w.now }
@@ -202,7 +202,8 @@ fn records(w: &Words) -> bool
 
 // ---- all of it
 
-// `is_window`, of as many words as a window has.
+// `is_window`, of as many words as a window has. It is called and not written out in each call: one that is refused before it then needs no room for it.
+#[inline(never)]
 pub fn holds_window(words: &Words) -> bool
     ensures { result ≡ is_window words.now }
 {

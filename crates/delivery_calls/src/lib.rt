@@ -108,7 +108,7 @@ fn take_delivered(
         × (releases_of result gone.new ≡ (taken h source clock (window_of words.old)).gone) }
 {
     let height = calls::height_of(front);
-    release::remove_pending(words, gone, h, Reason::Delivered, clock);
+    release::remove_pending_by(words, gone, h, Reason::Delivered, clock);
     let n = credit_by(words, gone, source, h, height, clock);
     put_delivered(gone, front, n)
 }

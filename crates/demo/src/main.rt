@@ -6,7 +6,7 @@ ghost use Rattle.ledger.specs.Book.{balanced, total, none};
 ghost use Rattle.lines.specs.Words.{verdicts};
 
 use ledger::{Amount, Book};
-use lines::{Entry, Said};
+use lines::Said;
 use model::Refusal;
 use played::act;
 use script::{Plan, Staged, Step};
@@ -202,15 +202,14 @@ fn script_text() -> [u8; 3150] {
 // ---- the book at the end, and whether it adds up with what the window says
 
 // A line of the book has 53 bytes and a line end.
-fn entry(rt: &impl Print, e: Entry, a: Amount) -> io::Result<()> {
-    let l = lines::rows::entry(e, a.blocks, a.bytes);
+fn entry(rt: &impl Print, k: usize, a: Amount) -> io::Result<()> {
+    let l = lines::rows::entry(k, a.blocks, a.bytes);
     put(rt, &l[..54])
 }
 
 fn page(rt: &impl Print, amounts: [Amount; 13]) -> io::Result<()> {
-    let entries = lines::ENTRIES;
-    for (e, a) in entries.iter().zip(amounts.iter()) {
-        entry(rt, *e, *a)?;
+    for (k, a) in amounts.iter().enumerate() {
+        entry(rt, k, *a)?;
     }
     Ok(())
 }

@@ -1,9 +1,8 @@
 -- The demo's lines as bytes: 80 and a line end.
 use Rattle.std.specs.Prelude.{List, [], ◌∷◌, ℕ, ◌/◌, ◌%◌, set, replicate, Option, None, Some, Result, Ok, Err}
-use Rattle.model.specs.Says.{number}
 use Rattle.model.specs.declared.Refusal.{Refusal}
-use Rattle.lines.specs.Cells.{bytes, column, put}
-use Rattle.lines.specs.Words.{name, head_word, last_word, refusal_word, entry_words}
+use Rattle.lines.specs.Cells.{column, put}
+use Rattle.lines.specs.Words.{name, head_word, last_word, refused, entry_words, nth_entry}
 use Rattle.lines.specs.declared.Said.{Said}
 use Rattle.lines.specs.declared.Call.{Call}
 use Rattle.lines.specs.declared.Made.{Made}
@@ -23,13 +22,13 @@ unfoldable pub asked : Made → List ℕ → List ℕ
 asked m line = put 39 (column 3 m.last) (put 36 (column 3 m.first) (put 33 (column 3 m.peer) line))
 
 -- a head, a number or none, and a tail
-unfoldable pub sentence : List ℕ → Option ℕ → List ℕ → List ℕ → List ℕ
-sentence head n tail line = put 54 tail (put 51 (column 3 n) (put 43 head line))
+unfoldable pub sentence : Said → List ℕ → List ℕ
+sentence s line = put 54 (last_word s.tail) (put 51 (column 3 s.number) (put 43 (head_word s.head) line))
 
 -- the answer; of a refused call the refusal's number, and why it is one
 abbrev pub answered : Result Said Refusal → List ℕ → List ℕ
-answered (Err r) line = sentence (bytes "refused ") (Some (number r)) (refusal_word r) line
-answered (Ok s) line = sentence (head_word s.head) s.number (last_word s.tail) line
+answered (Err r) line = sentence (refused r) line
+answered (Ok s) line = sentence s line
 
 -- the peer's share, where there is a peer
 abbrev pub share_of : Option ℕ → ℕ → Option ℕ
@@ -44,6 +43,10 @@ unfoldable pub row : Made → Result Said Refusal → After → List ℕ
 row m s a = left m a (answered s (asked m (begun m.time m.call)))
 
 -- a line of the book: blocks and bytes
-unfoldable pub entry : Entry → ℕ → ℕ → List ℕ
-entry e blocks in_bytes =
+unfoldable pub entry_line : Entry → ℕ → ℕ → List ℕ
+entry_line e blocks in_bytes =
     put 41 (column 12 (Some in_bytes)) (put 33 (column 8 (Some blocks)) (put 0 (entry_words e) (set (replicate 81 32) 53 10)))
+
+-- the line at a place of the page
+abbrev pub entry : ℕ → ℕ → ℕ → List ℕ
+entry k blocks in_bytes = entry_line (nth_entry k) blocks in_bytes

@@ -1,6 +1,7 @@
 -- The words of the demo: names of calls, answers in short, reasons in full, and the verdict on the book.
 use Rattle.std.specs.Prelude.{Bool, true, false, cond, List, [], ◌∷◌, ℕ, ◌-◌, leb, get_or, Option, None, Some, Result, Ok, Err, ⊤}
 use Rattle.lines.specs.Cells.{bytes}
+use Rattle.model.specs.Says.{number}
 use Rattle.model.specs.declared.Fetch.{Fetch}
 use Rattle.model.specs.declared.Fetch.TheVariants as fetch
 use Rattle.model.specs.declared.Received.{Received}
@@ -13,7 +14,7 @@ use Rattle.model.specs.declared.Request.{Request}
 use Rattle.model.specs.declared.Refusal.{Refusal}
 use Rattle.model.specs.declared.Refusal.TheVariants.{WordCount, NotAWindow, ShortReport, Clock, Settings, Seats, Listed, Many, Body, ShortOutput, Payload, Chain}
 use Rattle.lines.specs.declared.Call.{Call}
-use Rattle.lines.specs.declared.Call.TheVariants.{Open, MarkRequested, MarkOwnedFetch, MarkReceivedFrom, RejectDelivery, ExpirePending, RequeueForRetry, ReleasePending, RetireBefore, RetainOwnedBy, ObserveBlocked, ConfirmColdFrontHedge, ConfirmPrefixProbe, SetFanoutEligiblePeers, ClearPreferredPeer, NextPeerRequest}
+use Rattle.lines.specs.declared.Call.TheVariants.{Open, MarkRequested, MarkOwnedFetch, MarkReceivedFrom, RejectDelivery, ExpirePending, RequeueForRetry, ReleasePending, RetireBefore, RetainOwnedBy, ObserveBlocked, ConfirmColdFrontHedge, ConfirmPrefixProbe, SetFanoutEligiblePeers, ClearPreferredPeer, NextPeerRequest, Other}
 use Rattle.model.specs.declared.Reason.{Reason}
 use Rattle.model.specs.declared.Reason.TheVariants as reason
 use Rattle.lines.specs.declared.Head.{Head}
@@ -24,6 +25,7 @@ use Rattle.lines.specs.declared.Entry.{Entry}
 use Rattle.lines.specs.declared.Entry.TheVariants as entry
 use Rattle.lines.specs.declared.Said.{Said}
 
+-- a number that is no call's has the last name
 abbrev pub name : Call → List ℕ
 name Open = bytes "open                     "
 name MarkRequested = bytes "mark_requested           "
@@ -41,6 +43,7 @@ name ConfirmPrefixProbe = bytes "confirm_prefix_probe     "
 name SetFanoutEligiblePeers = bytes "set_fanout_eligible_peers"
 name ClearPreferredPeer = bytes "clear_preferred_peer     "
 name NextPeerRequest = bytes "next_peer_request        "
+name (Other n) = bytes "next_peer_request        "
 
 -- by the number in a line of the script
 abbrev pub numbered : ℕ → Option Call
@@ -68,6 +71,7 @@ numbered n =
 
 abbrev pub head_word : Head → List ℕ
 head_word head.Done = bytes "done    "
+head_word head.Refused = bytes "refused "
 head_word head.Asked = bytes "asked   "
 head_word head.Held = bytes "held    "
 head_word head.Staged = bytes "staged  "
@@ -95,21 +99,6 @@ reason_word reason.SeatLost = bytes " peer gone "
 reason_word reason.PrefixRaceLost = bytes " race lost "
 reason_word reason.HedgeLost = bytes " hedge lost"
 
-abbrev pub tail_word : Tail → List ℕ
-tail_word (tail.Why why) = reason_word why
-tail_word tail.IsPending = bytes " is pending"
-tail_word tail.RoomLeft = bytes " room left "
-tail_word tail.Full = bytes " full      "
-tail_word tail.Discarded = bytes " discarded "
-tail_word tail.Staller = bytes " staller   "
-tail_word tail.Silent = bytes " silent    "
-tail_word tail.Staged = bytes " staged    "
-tail_word tail.ColdFront = bytes " cold front"
-
-abbrev pub last_word : Option Tail → List ℕ
-last_word None = bytes "           "
-last_word (Some t) = tail_word t
-
 abbrev pub refusal_word : Refusal → List ℕ
 refusal_word WordCount = bytes " word count"
 refusal_word NotAWindow = bytes " no window "
@@ -123,6 +112,22 @@ refusal_word Body = bytes " body size "
 refusal_word ShortOutput = bytes " list short"
 refusal_word Payload = bytes " payload   "
 refusal_word Chain = bytes " chain list"
+
+abbrev pub tail_word : Tail → List ℕ
+tail_word (tail.Why why) = reason_word why
+tail_word (tail.Because r) = refusal_word r
+tail_word tail.IsPending = bytes " is pending"
+tail_word tail.RoomLeft = bytes " room left "
+tail_word tail.Full = bytes " full      "
+tail_word tail.Discarded = bytes " discarded "
+tail_word tail.Staller = bytes " staller   "
+tail_word tail.Silent = bytes " silent    "
+tail_word tail.Staged = bytes " staged    "
+tail_word tail.ColdFront = bytes " cold front"
+
+abbrev pub last_word : Option Tail → List ℕ
+last_word None = bytes "           "
+last_word (Some t) = tail_word t
 
 -- the lines of the book
 abbrev pub reason_entry : Reason → List ℕ
@@ -142,6 +147,27 @@ entry_words (entry.LetGo why) = reason_entry why
 entry_words entry.Opened = bytes "  opened                         "
 entry_words entry.LetGoInAll = bytes "  let go in all                  "
 entry_words entry.Pending = bytes "  pending, as the window says    "
+
+-- in the order of the page; past its end the last
+abbrev pub nth_entry : ℕ → Entry
+nth_entry k =
+    get_or
+    (entry.Opened
+    ∷ entry.LetGo reason.Delivered
+    ∷ entry.LetGo reason.OwnerRejection
+    ∷ entry.LetGo reason.Retry
+    ∷ entry.LetGo reason.Released
+    ∷ entry.LetGo reason.Retired
+    ∷ entry.LetGo reason.OwnerTimeOut
+    ∷ entry.LetGo reason.PassedOver
+    ∷ entry.LetGo reason.SeatLost
+    ∷ entry.LetGo reason.PrefixRaceLost
+    ∷ entry.LetGo reason.HedgeLost
+    ∷ entry.LetGoInAll
+    ∷ entry.Pending
+    ∷ [])
+    k
+    entry.Pending
 
 abbrev pub verdicts : Bool → List ℕ
 verdicts true = bytes "The book adds up: what was opened is what was let go and what is pending.\n"
@@ -171,8 +197,24 @@ abbrev pub tail_by : Option Reason → Option Tail
 tail_by None = None
 tail_by (Some why) = Some (tail.Why why)
 
+-- the tails past those of reasons, past them the last
+abbrev pub tail_past : ℕ → Option Tail
+tail_past n =
+    get_or
+    (Some tail.IsPending
+    ∷ Some tail.RoomLeft
+    ∷ Some tail.Full
+    ∷ Some tail.Discarded
+    ∷ Some tail.Staller
+    ∷ Some tail.Silent
+    ∷ Some tail.Staged
+    ∷ [])
+    n
+    (Some tail.ColdFront)
+
+-- of any word of a report: 0 says nothing, 1 to 10 are reasons
 abbrev pub tail_of : ℕ → Option Tail
-tail_of n = tail_by (reason_of n)
+tail_of n = cond (leb n 10) (tail_by (reason_of n)) (tail_past (n - 11))
 
 -- ---- answers: a head, a number or none, a tail or none
 
@@ -181,6 +223,10 @@ plain h t = record { head = h; number = None; tail = t }
 
 abbrev pub counted : Head → ℕ → Option Tail → Said
 counted h n t = record { head = h; number = Some n; tail = t }
+
+-- the refusal's number, and why it is one
+abbrev pub refused : Refusal → Said
+refused r = counted head.Refused (number r) (Some (tail.Because r))
 
 abbrev pub accepted : Result ⊤ Refusal → Result Said Refusal
 accepted (Err r) = Err r

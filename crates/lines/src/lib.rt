@@ -5,9 +5,9 @@ pub mod cells;
 pub mod rows;
 pub mod words;
 
-use model::Reason;
+use model::{Reason, Refusal};
 
-// The calls of the window, by their names.
+// The calls of the window, by their names, and a number that is none of theirs.
 #[derive(Clone, Copy)]
 pub enum Call {
     Open,
@@ -26,6 +26,7 @@ pub enum Call {
     SetFanoutEligiblePeers,
     ClearPreferredPeer,
     NextPeerRequest,
+    Other(usize),
 }
 
 // A call that was made: tenths of a second, which call, its peer and its first block where it has any, and the last of several blocks.
@@ -50,6 +51,7 @@ pub struct After {
 #[derive(Clone, Copy)]
 pub enum Head {
     Done,
+    Refused,
     Asked,
     Held,
     Staged,
@@ -66,10 +68,11 @@ pub enum Head {
     NoPlan,
 }
 
-// How it ends: with a reason, or with another word.
+// How it ends: with why an entry went, with why the call is refused, or with another word.
 #[derive(Clone, Copy)]
 pub enum Tail {
     Why(Reason),
+    Because(Refusal),
     IsPending,
     RoomLeft,
     Full,
@@ -80,7 +83,7 @@ pub enum Tail {
     ColdFront,
 }
 
-// What is said of an accepted call. A refused one has its refusal: an answer is a `Result<Said, Refusal>`.
+// What is said of a call. A refused one has its refusal instead: an answer is a `Result<Said, Refusal>`.
 #[derive(Clone, Copy)]
 pub struct Said {
     pub head: Head,
@@ -97,7 +100,7 @@ pub enum Entry {
     Pending,
 }
 
-// In the order of the page.
+// In the order of the page (`Entry::nth`).
 pub const ENTRIES: [Entry; 13] = [
     Entry::Opened,
     Entry::LetGo(Reason::Delivered),

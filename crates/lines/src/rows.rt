@@ -1,9 +1,9 @@
 // One line a call: when, what, with whom, which blocks, the answer, and the window after it. 80 bytes and a line end.
 ghost use Rattle.std.specs.Prelude.{◌≡◌};
-ghost use Rattle.lines.specs.Rows.{begun, asked, sentence, answered, share_of, left, row, entry};
+ghost use Rattle.lines.specs.Rows.{begun, asked, sentence, answered, share_of, left, row, entry_line, entry};
 
 use crate::cells::{put, put_number};
-use crate::words::{last_word, refusal_word};
+use crate::words::last_word;
 use crate::{After, Call, Entry, Made, Said};
 use model::Refusal;
 
@@ -31,21 +31,22 @@ fn asked(m: Made, line: [u8; 81]) -> [u8; 81]
 
 // A head, a number or none, and a tail.
 #[tactic(auto, unfolding(crate::specs::Rows::sentence))]
-fn sentence(head: [u8; 8], n: Option<u64>, tail: [u8; 11], line: [u8; 81]) -> [u8; 81]
-    ensures { result ≡ sentence head n tail line }
+fn sentence(s: Said, line: [u8; 81]) -> [u8; 81]
+    ensures { result ≡ sentence s line }
 {
-    let a = put(line, 43, &head);
-    let b = put_number(a, 51, 3, n);
-    put(b, 54, &tail)
+    let h = s.head.word();
+    let a = put(line, 43, &h);
+    let b = put_number(a, 51, 3, s.number);
+    let t = last_word(s.tail);
+    put(b, 54, &t)
 }
 
-// Of a refused call the refusal's number, and why it is one.
 fn answered(s: Result<Said, Refusal>, line: [u8; 81]) -> [u8; 81]
     ensures { result ≡ answered s line }
 {
     match s {
-        Err(r) => sentence(*b"refused ", Some(u64::from(r)), refusal_word(r), line),
-        Ok(s) => sentence(s.head.word(), s.number, last_word(s.tail), line),
+        Err(r) => sentence(Said::refused(r), line),
+        Ok(s) => sentence(s, line),
     }
 }
 
@@ -77,9 +78,9 @@ pub fn row(m: Made, s: Result<Said, Refusal>, a: After) -> [u8; 81]
 }
 
 // A line of the book: 53 bytes and a line end, then blanks.
-#[tactic(auto, unfolding(crate::specs::Rows::entry))]
-pub fn entry(e: Entry, blocks: u64, bytes: u64) -> [u8; 81]
-    ensures { result ≡ entry e blocks bytes }
+#[tactic(auto, unfolding(crate::specs::Rows::entry_line))]
+pub fn entry_line(e: Entry, blocks: u64, bytes: u64) -> [u8; 81]
+    ensures { result ≡ entry_line e blocks bytes }
 {
     let mut l: [u8; 81] = [b' '; 81];
     l[53] = b'\n';
@@ -87,4 +88,11 @@ pub fn entry(e: Entry, blocks: u64, bytes: u64) -> [u8; 81]
     let a = put(l, 0, &w);
     let b = put_number(a, 33, 8, Some(blocks));
     put_number(b, 41, 12, Some(bytes))
+}
+
+// The line at a place of the page.
+pub fn entry(k: usize, blocks: u64, bytes: u64) -> [u8; 81]
+    ensures { result ≡ entry k blocks bytes }
+{
+    entry_line(Entry::nth(k), blocks, bytes)
 }

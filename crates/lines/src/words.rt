@@ -1,8 +1,8 @@
 // The words of the demo. An answer is a head, a number or none, and a tail.
 ghost use Rattle.std.specs.Prelude.{◌≡◌, Some, None, MatchResult};
-ghost use Rattle.lines.specs.Words.{name, numbered, head_word, reason_word, reason_of, tail_of, tail_word, last_word, refusal_word, reason_entry, entry_words, verdicts, accepted, requested, fetched, let_go, got, received, rejected, blocked, planned, plain, counted};
+ghost use Rattle.lines.specs.Words.{name, numbered, head_word, reason_word, reason_of, tail_of, tail_word, last_word, refusal_word, reason_entry, entry_words, nth_entry, verdicts, refused, accepted, requested, fetched, let_go, got, received, rejected, blocked, planned, plain, counted};
 
-use crate::{Call, Entry, Head, Said, Tail};
+use crate::{Call, ENTRIES, Entry, Head, Said, Tail};
 use model::{Blocked, Fetch, NextRequest, Reason, Received, Refusal, Rejected, Request};
 
 impl Call {
@@ -26,6 +26,7 @@ impl Call {
             Call::SetFanoutEligiblePeers => *b"set_fanout_eligible_peers",
             Call::ClearPreferredPeer => *b"clear_preferred_peer     ",
             Call::NextPeerRequest => *b"next_peer_request        ",
+            Call::Other(_) => *b"next_peer_request        ",
         }
     }
 }
@@ -65,6 +66,7 @@ impl Head {
     {
         match self {
             Head::Done => *b"done    ",
+            Head::Refused => *b"refused ",
             Head::Asked => *b"asked   ",
             Head::Held => *b"held    ",
             Head::Staged => *b"staged  ",
@@ -144,6 +146,7 @@ impl Tail {
     {
         match self {
             Tail::Why(why) => reason_word(why),
+            Tail::Because(r) => refusal_word(r),
             Tail::IsPending => *b" is pending",
             Tail::RoomLeft => *b" room left ",
             Tail::Full => *b" full      ",
@@ -167,7 +170,7 @@ pub(crate) fn last_word(tail: Option<Tail>) -> [u8; 11]
 }
 
 // Why a call is refused.
-pub(crate) fn refusal_word(r: Refusal) -> [u8; 11]
+fn refusal_word(r: Refusal) -> [u8; 11]
     ensures { result ≡ refusal_word r }
 {
     match r {
@@ -187,6 +190,13 @@ pub(crate) fn refusal_word(r: Refusal) -> [u8; 11]
 }
 
 impl Entry {
+    // The lines of the page in their order; past its end the last.
+    pub fn nth(k: usize) -> Entry
+        ensures { result ≡ nth_entry k }
+    {
+        ENTRIES.get(k).copied().unwrap_or(Entry::Pending)
+    }
+
     pub(crate) fn words(self) -> [u8; 33]
         ensures { result ≡ entry_words self }
     {
@@ -211,14 +221,31 @@ pub fn verdict(right: bool) -> [u8; 74]
 
 // ---- answers
 
-// The reason that a report's word is, if it is one.
+// How an answer ends by a word of its report: 1 to 10 are reasons. No report says another; those have the tails that follow, and past them the last.
 fn tail_of(word: u64) -> Option<Tail>
     ensures { result ≡ tail_of word }
 {
-    reason_of(word).map(Tail::Why)
+    match word {
+        0..=10 => reason_of(word).map(Tail::Why),
+        11 => Some(Tail::IsPending),
+        12 => Some(Tail::RoomLeft),
+        13 => Some(Tail::Full),
+        14 => Some(Tail::Discarded),
+        15 => Some(Tail::Staller),
+        16 => Some(Tail::Silent),
+        17 => Some(Tail::Staged),
+        _ => Some(Tail::ColdFront),
+    }
 }
 
 impl Said {
+    // The refusal's number, and why it is one.
+    pub(crate) fn refused(r: Refusal) -> Said
+        ensures { result ≡ refused r }
+    {
+        Said::counted(Head::Refused, u64::from(r), Some(Tail::Because(r)))
+    }
+
     // No number.
     fn plain(head: Head, tail: Option<Tail>) -> Said
         ensures { result ≡ plain head tail }

@@ -114,6 +114,15 @@ fn add_all(index: &mut [u32], list: &[u64])
     }
 }
 
+// The whole list, whatever was in the index.
+pub fn index_list(index: &mut [u32], list: &[u64])
+    requires { Sized index.old }
+    ensures { Indexed (length list.now / 4) list.now index.new }
+{
+    clear(index);
+    add_all(index, list);
+}
+
 // ---- the index asked
 
 // Whether the hash is at one of the places that have a link: those of its bucket are looked at, the last first. Its words come as numbers: in the
@@ -159,6 +168,15 @@ pub fn names_first(index: &[u32], list: &[u64], n: usize, h: Hash) -> bool
     looked_through(list, m, n, h)
 }
 
+// `names`: whether the list names the hash.
+pub fn names(index: &[u32], list: &[u64], h: Hash) -> bool
+    requires { Indexed (length list.now / 4) list.now index.now }
+    ensures { result ≡ names list.now h }
+{
+    let n = list.len() / HASH_WORDS;
+    names_first(index, list, n, h)
+}
+
 // ---- a list with its index
 
 #[derive(Clone, Copy)]
@@ -174,8 +192,7 @@ impl<'a> Listed<'a> {
         requires { Sized index.old }
         ensures { result.hashes.now ≡ hashes.now }
     {
-        clear(index);
-        add_all(index, hashes);
+        index_list(index, hashes);
         Listed { hashes, index }
     }
 
@@ -190,7 +207,6 @@ impl<'a> Listed<'a> {
     pub fn names(self, h: Hash) -> bool
         ensures { result ≡ names self.entry.hashes.now h }
     {
-        let n = self.len();
-        names_first(self.index, self.hashes, n, h)
+        names(self.index, self.hashes, h)
     }
 }

@@ -6,7 +6,6 @@
 ghost use Rattle.std.specs.Prelude.{◌≡◌, cond, not, ◌&&◌, map, ◌+◌, ◌-◌, ◌<◌, ◌≤◌, suc, length, take, eqb, ltb, leb};
 ghost use Rattle.model.specs.Numbers.{max_clock, max_estimate};
 ghost use Rattle.model.specs.Time.{expired, effective_owner_timeout, active};
-ghost use Rattle.model.specs.Reasons.{reason_number};
 ghost use Rattle.model.specs.LettingGo.{sweep_reason, lost_reason, flagged, forecast_blocks, forecast_bytes};
 ghost use Rattle.model.specs.Layout.{window_of};
 ghost use Rattle.laws.specs.Batches.{retire_reason};
@@ -103,21 +102,15 @@ fn lost_mark(flag: u64, reason: u64) -> u64
 }
 
 // `lost_reason` by flags, nonzero for a seat that is kept.
-pub fn lost_marks(
-    words: &Words,
-    count: usize,
-    flags: &PerSeat,
-    reason: Reason,
-) -> [u64; sizes::PLACES]
+pub fn lost_marks(words: &Words, count: usize, flags: &PerSeat, reason: u64) -> [u64; sizes::PLACES]
     requires { (count ≡ length (window_of words.now).queue.pending) × Ranged (window_of words.now) }
-    ensures { take count result ≡ map (lost_reason (flagged flags.now) (reason_number reason)) (window_of words.now).queue.pending }
+    ensures { take count result ≡ map (lost_reason (flagged flags.now) reason) (window_of words.now).queue.pending }
 {
-    let number = u64::from(reason);
     let mut marks = [0; sizes::PLACES];
     for i in 0..count {
         let o = words[i + at::OWNERS];
         let owner = o as usize;
-        marks[i] = lost_mark(flags[owner], number);
+        marks[i] = lost_mark(flags[owner], reason);
     }
     marks
 }

@@ -33,6 +33,11 @@ pub one_placed : (l : List ℕ) (n v : ℕ) → n < length l → set l n v ≡ p
 unfolding placed
 one_placed l n v h = let e : suc n ≡ n + 1 = omega arith in set_split l n v h ∙ ap (λ (m : ℕ). take n l ++ (v ∷ drop m l)) e
 
+-- what a store of a part leaves
+pub put_placed : (i z : ℕ) (v y l : List ℕ) → z ≡ length v → y ≡ v → take i l ++ (y ++ drop z (drop i l)) ≡ placed i v l
+unfolding placed
+put_placed i z v y l e q = (λ j. take i l ++ (q j ++ drop (e j) (drop i l))) ∙ ap (λ (x : List ℕ). take i l ++ (v ++ x)) (drop-drop (length v) i l)
+
 -- what is before them
 pub placed_before : (n : ℕ) (v l : List ℕ) → n ≤ length l → take n (placed n v l) ≡ take n l
 unfolding placed
@@ -55,22 +60,22 @@ written_more u v l n e =
 
 -- ---- asks in words
 
-hashes_more : (asks : List Ask) (a : Ask) → ask_hashes (asks ++ (a ∷ [])) ≡ ask_hashes asks ++ hash_words a.hash
+pub hashes_more : (asks : List Ask) (a : Ask) → ask_hashes (asks ++ (a ∷ [])) ≡ ask_hashes asks ++ hash_words a.hash
 unfolding ask_hashes
 hashes_more [] a = refl
 hashes_more (x ∷ asks) a = ap (λ (r : List ℕ). x.hash.a ∷ x.hash.b ∷ x.hash.c ∷ x.hash.d ∷ r) (hashes_more asks a)
 
-heights_more : (asks : List Ask) (a : Ask) → ask_heights (asks ++ (a ∷ [])) ≡ ask_heights asks ++ (a.height ∷ [])
+pub heights_more : (asks : List Ask) (a : Ask) → ask_heights (asks ++ (a ∷ [])) ≡ ask_heights asks ++ (a.height ∷ [])
 unfolding ask_heights
 heights_more [] a = refl
 heights_more (x ∷ asks) a = ap (λ (r : List ℕ). x.height ∷ r) (heights_more asks a)
 
-hashes_length : (asks : List Ask) → length (ask_hashes asks) ≡ 4 * length asks
+pub hashes_length : (asks : List Ask) → length (ask_hashes asks) ≡ 4 * length asks
 unfolding ask_hashes
 hashes_length [] = refl
 hashes_length (x ∷ asks) = omega (arith, hashes_length asks)
 
-heights_length : (asks : List Ask) → length (ask_heights asks) ≡ length asks
+pub heights_length : (asks : List Ask) → length (ask_heights asks) ≡ length asks
 unfolding ask_heights
 heights_length [] = refl
 heights_length (x ∷ asks) = ap suc (heights_length asks)

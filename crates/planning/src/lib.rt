@@ -161,7 +161,7 @@ fn request_after(
 // ---- the two that plan
 
 // `next_peer_request_allowing_retry`
-fn next_peer_request_allowing_retry(
+pub fn next_peer_request_allowing_retry(
     words: &mut Words,
     gone: &mut Gone,
     hashes: &mut [u64],

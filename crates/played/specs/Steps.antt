@@ -187,6 +187,14 @@ probing s = confirms_probe s.clock s.other (hashes 32 8 s.first) (s.peer ∷ [])
 abbrev pub opening : Step → Call
 opening s = opens s.clock settings (keys 256)
 
+-- the calls that are done or refused; any other stands here as an opening
+abbrev pub changing : Step → Name → Call
+changing s calls.ConfirmColdFrontHedge = changes (confirms_hedge s.other s.peer s.hash)
+changing s calls.ConfirmPrefixProbe = changes (probing s)
+changing s calls.SetFanoutEligiblePeers = changes (sets_fanout s.clock s.other)
+changing s calls.ClearPreferredPeer = changes clears_preferred
+changing s _ = opening s
+
 abbrev pub making_by : Step → Option Plan → List ℕ → List ℕ → Name → Play
 making_by s p hashes heights calls.MarkRequested = asking s p hashes heights
 making_by s p hashes heights calls.MarkOwnedFetch = fetching s
@@ -198,14 +206,15 @@ making_by s p hashes heights calls.ReleasePending = letting (releases s.clock s.
 making_by s p hashes heights calls.RetireBefore = letting (retires s.clock s.first)
 making_by s p hashes heights calls.RetainOwnedBy = letting (keeping s)
 making_by s p hashes heights calls.ObserveBlocked = looking s
-making_by s p hashes heights calls.ConfirmColdFrontHedge = doing (changes (confirms_hedge s.other s.peer s.hash))
-making_by s p hashes heights calls.ConfirmPrefixProbe = doing (changes (probing s))
-making_by s p hashes heights calls.SetFanoutEligiblePeers = doing (changes (sets_fanout s.clock s.other))
-making_by s p hashes heights calls.ClearPreferredPeer = doing (changes clears_preferred)
-making_by s p hashes heights calls.Open = doing (opening s)
-making_by s p hashes heights calls.NextPeerRequest = doing (opening s)
+making_by s p hashes heights calls.ConfirmColdFrontHedge = doing (changing s calls.ConfirmColdFrontHedge)
+making_by s p hashes heights calls.ConfirmPrefixProbe = doing (changing s calls.ConfirmPrefixProbe)
+making_by s p hashes heights calls.SetFanoutEligiblePeers = doing (changing s calls.SetFanoutEligiblePeers)
+making_by s p hashes heights calls.ClearPreferredPeer = doing (changing s calls.ClearPreferredPeer)
+making_by s p hashes heights calls.Open = doing (changing s calls.Open)
+making_by s p hashes heights calls.NextPeerRequest = doing (changing s calls.NextPeerRequest)
+making_by s p hashes heights (calls.Other n) = doing (changing s (calls.Other n))
 
--- every call but the one that plans, which stands here as an opening
+-- every call but the one that plans, which stands here as an opening, as does a number that is no call's
 unfoldable pub making : Step → Option Plan → List ℕ → List ℕ → Play
 making s p hashes heights = making_by s p hashes heights s.call
 

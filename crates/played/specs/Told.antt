@@ -21,7 +21,7 @@ use Rattle.model.specs.declared.Refusal.{Refusal}
 use Rattle.letting_go.specs.Letting.{places}
 use Rattle.report_words.specs.Report.{releases_of}
 use Rattle.lend.specs.Blank.{none_filled}
-use Rattle.lend.specs.Goes.{Goes, Leaves, Quiet, quiet_goes}
+use Rattle.lend.specs.Goes.{Goes, Leaves, Quiet, quiet_goes, quiet_change, quiet_opening}
 use Rattle.lines.specs.Words as words
 use Rattle.lines.specs.declared.Said.{Said}
 use Rattle.lines.specs.declared.Call.{Call as Name}
@@ -33,7 +33,7 @@ use Rattle.script.specs.declared.Step.{Step}
 use Rattle.script.specs.declared.Plan.{Plan}
 use Rattle.played.specs.declared.Outcome.{Outcome}
 use Rattle.played.specs.declared.Turn.{Turn}
-use Rattle.played.specs.Steps.{spoken, Play, Plays, Kept, Turns, TurnsIf, TurnsBy, done_said, request_said, fetch_said, let_go_said, received_said, rejected_said, blocked_said, plan_said, planned_by, request_blocks, fetch_blocks, number_of, mean_in, letting, doing, plans_by, making_by, making}
+use Rattle.played.specs.Steps.{spoken, Play, Plays, Kept, Turns, TurnsIf, TurnsBy, done_said, request_said, fetch_said, let_go_said, received_said, rejected_said, blocked_said, plan_said, planned_by, request_blocks, fetch_blocks, number_of, mean_in, letting, doing, changing, plans_by, making_by, making}
 
 -- ---- an answer of the code, by its values
 
@@ -154,6 +154,14 @@ plays_quietly t b ws ws' a said q l s z =
 pub plays_as : (p q : Play) → p ≡ q → (b : Book) (ws ws' : List ℕ) (r : Outcome) → Plays q b ws ws' r → Plays p b ws ws' r
 plays_as p q e b ws ws' r h = subst (λ (x : Play). Plays x b ws ws' r) (sym e) h
 
+-- the calls that are done or refused let nothing go
+pub quiet_changing : (s : Step) (call : Name) → Quiet (changing s call)
+quiet_changing s calls.ConfirmColdFrontHedge = quiet_change _ refl
+quiet_changing s calls.ConfirmPrefixProbe = quiet_change _ refl
+quiet_changing s calls.SetFanoutEligiblePeers = quiet_change _ refl
+quiet_changing s calls.ClearPreferredPeer = quiet_change _ refl
+quiet_changing s _ = quiet_opening _ _ _
+
 -- ---- which step it is
 
 module _ (s : Step) (p : Option Plan) (hashes heights : List ℕ) where
@@ -209,6 +217,7 @@ planless_by s p hashes heights calls.SetFanoutEligiblePeers = λ w. refl
 planless_by s p hashes heights calls.ClearPreferredPeer = λ w. refl
 planless_by s p hashes heights calls.Open = λ w. refl
 planless_by s p hashes heights calls.NextPeerRequest = λ w. refl
+planless_by s p hashes heights (calls.Other n) = λ w. refl
 
 planless_making : (s : Step) (p : Option Plan) (hashes heights : List ℕ) → Planless (making s p hashes heights).call
 unfolding making

@@ -194,7 +194,7 @@ fn done(b: Book, r: Result<(), Refusal>) -> Outcome
 
 // ---- any call
 
-// Every call but the one that plans: that is made by `act`, and stands here as an opening. `other` is the owner of the blocks, or how many peers there are.
+// Every call but the one that plans: that is made by `act`, and stands here as an opening, as does a number that is no call's. `other` is the owner of the blocks, or how many peers there are.
 fn make(
     words: &mut [u64],
     hashes: &[u64],
@@ -235,6 +235,7 @@ fn make(
         Call::ClearPreferredPeer => done(b, window::clear_preferred_peer(words)),
         Call::Open => done(b, open(words, s)),
         Call::NextPeerRequest => done(b, open(words, s)),
+        Call::Other(_) => done(b, open(words, s)),
     }
 }
 

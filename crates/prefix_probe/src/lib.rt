@@ -77,31 +77,30 @@ pub fn walk_up(words: &Words, limit: usize, first: u64) -> Walk
     let count = state_queue::pending_count(words);
     let mut marks: [u64; sizes::PLACES] = [0; sizes::PLACES];
     let mut places: [usize; sizes::PROBED] = [0; sizes::PROBED];
+    let mut n = 0;
     let mut expected = first;
-    let n = 'walk: {
-        for n in 0..count {
-            let mut at = count;
-            for i in (0..count).rev() {
-                let mark = marks[i];
-                let x = height_at(words, i);
-                if is_behind(mark, x, expected) {
-                    break 'walk n;
-                }
-                let here = follows(mark, x, expected);
-                if at_limit(here, n, limit) {
-                    break 'walk n;
-                }
-                at = nearer(here, i, at);
-                if at_gap(i, at, count) {
-                    break 'walk n;
-                }
+    'walk: for turn in 0..count {
+        let mut at = count;
+        for i in (0..count).rev() {
+            let mark = marks[i];
+            let x = height_at(words, i);
+            if is_behind(mark, x, expected) {
+                break 'walk;
             }
-            marks[at] = 1;
-            places[n] = at;
-            expected = numbers::next_height(expected);
+            let here = follows(mark, x, expected);
+            if at_limit(here, n, limit) {
+                break 'walk;
+            }
+            at = nearer(here, i, at);
+            if at_gap(i, at, count) {
+                break 'walk;
+            }
         }
-        count
-    };
+        marks[at] = 1;
+        places[n] = at;
+        n = turn + 1;
+        expected = numbers::next_height(expected);
+    }
     Walk {
         n,
         places,

@@ -147,7 +147,7 @@ fn race_won(words: &mut Words, gone: &mut Gone, win: u64, owner: u64, clock: u64
     let preferred = Some(win);
     let flags = race_flags(words, first);
     end_races(words);
-    let n = retain::retain_peer_assignments(words, gone, &flags, Reason::PrefixRaceLost);
+    let n = retain::retain_peer_assignments_by(words, gone, &flags, Reason::PrefixRaceLost);
     cool_loser(words, first, o, clock);
     state::set_preferred(words, preferred);
     n

@@ -62,7 +62,7 @@ fn hedge_lost(words: &mut Words, gone: &mut Gone, owner: usize, alternate: u64, 
     flags[owner] = 0;
     let preferred = Some(alternate);
     state_races::clear_probe(words);
-    let n = retain::retain_peer_assignments(words, gone, &flags, Reason::HedgeLost);
+    let n = retain::retain_peer_assignments_by(words, gone, &flags, Reason::HedgeLost);
     state_cooling::mark_peer_unresponsive(words, owner, clock);
     state::set_preferred(words, preferred);
     n

@@ -1,6 +1,7 @@
 // The arguments of a call, in the order of crates/kofudile/API.md: plain ones first, then each list with its length before it.
-ghost use Rattle.std.specs.Prelude.{◌≡◌, ◌<◌};
-ghost use Rattle.recorded.specs.Args.{settings_at, opening_at, words_at, behind_words, flags_at};
+ghost use Rattle.std.specs.Prelude.{◌≡◌, ◌<◌, ◌≤◌, ◌+◌, take};
+ghost use Rattle.recorded.specs.Args.{settings_at, opening_at, words_at, second_list, behind_words, flags_at};
+ghost use Rattle.recorded.specs.Stream.{on, row_at};
 
 use crate::Opening;
 use crate::stream::{Listed, Number, Place, list_at, row};
@@ -39,7 +40,9 @@ pub fn opening_at(a: Place) -> Opening
 // The lists of `mark_requested` and `confirm_prefix_probe`, behind k plain arguments: words of hashes, and heights or seats.
 pub fn lists_at<T: Number>(a: Place, k: u64) -> (Listed<u64, 1024>, Listed<T, 256>)
     requires { k < 1024 }
-    ensures { (result.0 ≡ words_at k a.entry.numbers.now a.entry.at) × (result.1 ≡ behind_words T.of k a.entry.numbers.now a.entry.at) }
+    ensures rooms { (result.0.room ≡ row_at (λ n. n) 1024 a.entry.numbers.now (on a.entry.at (k + 1))) × (result.1.room ≡ row_at T.of 256 a.entry.numbers.now (on (second_list k a.entry.numbers.now a.entry.at) 1)) }
+    ensures lists { (take result.0.n result.0.room ≡ words_at k a.entry.numbers.now a.entry.at) × (take result.1.n result.1.room ≡ behind_words T.of k a.entry.numbers.now a.entry.at) }
+    ensures lengths { (result.0.n ≤ 1024) × (result.1.n ≤ 256) }
 {
     let n = a.nth(k);
     let first = a.on(k + 1);

@@ -1,6 +1,6 @@
 // A record, and the words that its call changed: runs, each its place, its length and its words.
 ghost use Rattle.std.specs.Prelude.{◌≡◌};
-ghost use Rattle.recorded.specs.Records.{nine_times, record_at, word_after, run_put, next_run, runs_put};
+ghost use Rattle.recorded.specs.Records.{nine_times, parts_at, record_at, word_after, run_put, next_run, runs_put};
 
 use crate::stream::Place;
 use crate::{Part, Record};
@@ -12,12 +12,10 @@ fn nine_times(n: u64) -> u64
     n.wrapping_mul(9)
 }
 
-// Its call, then how many arguments, fields, releases and numbers of runs there are, then these; none where the call is 0.
-#[tactic(auto, unfolding(crate::specs::Records::record_at))]
-pub fn record_at(p: Place) -> Option<Record>
-    ensures { result ≡ record_at p.entry.numbers.now p.entry.at }
+// Its call, then how many arguments, fields, releases and numbers of runs there are, then these.
+pub fn parts_at(p: Place) -> Record
+    ensures { result ≡ parts_at p.entry.numbers.now p.entry.at }
 {
-    let number = p.get();
     let args = p.on(5);
     let answer = args.on(p.nth(1));
     let fields = p.nth(2);
@@ -26,8 +24,8 @@ pub fn record_at(p: Place) -> Option<Record>
     let words = nine_times(places);
     let runs = gone.on(words);
     let next = runs.on(p.nth(4));
-    let r = Record {
-        number,
+    Record {
+        number: p.get(),
         args: args.at,
         answer: Part {
             at: answer.at,
@@ -40,8 +38,16 @@ pub fn record_at(p: Place) -> Option<Record>
         },
         runs: runs.at,
         next: next.at,
-    };
-    (number != 0).then_some(r)
+    }
+}
+
+// A record, none where its number is 0, which is no call.
+#[tactic(auto, unfolding(crate::specs::Records::record_at))]
+pub fn record_at(p: Place) -> Option<Record>
+    ensures { result ≡ record_at p.entry.numbers.now p.entry.at }
+{
+    let r = parts_at(p);
+    (r.number != 0).then_some(r)
 }
 
 // A word after a run of n words from the first on: the run's where it reaches, the old one elsewhere.

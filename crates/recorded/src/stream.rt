@@ -1,9 +1,8 @@
 // Places among the recorded numbers, and what stands there.
-ghost use Rattle.std.specs.Prelude.{◌≡◌, ◌+◌, ◌≤◌, ◌<◌, List, ℕ, min, take, slice_index};
+ghost use Rattle.std.specs.Prelude.{◌≡◌, ◌≤◌, ℕ, min, take, slice_index};
 ghost use Rattle.recorded.specs.Stream.{on, nth, low, is_set, perhaps, perhaps_height, hash_from, row_at};
 
 use model::Hash;
-use std::marker::Model;
 
 // The recorded numbers from a place on. A place wraps at 64 bits; past the end there are zeros.
 #[derive(Clone, Copy)]
@@ -52,18 +51,16 @@ impl<'a> Place<'a> {
 
     // A number that may be missing, by the number before it.
     pub fn perhaps(self, k: u64) -> Option<u64>
-        requires { k < 1024 }
         ensures { result ≡ perhaps self.entry.numbers.now self.entry.at k }
     {
-        self.is_set(k).then_some(self.nth(k + 1))
+        self.is_set(k).then_some(self.nth(k.wrapping_add(1)))
     }
 
     // A height that may be missing, in the same way.
     pub fn perhaps_height(self, k: u64) -> Option<u32>
-        requires { k < 1024 }
         ensures { result ≡ perhaps_height self.entry.numbers.now self.entry.at k }
     {
-        self.is_set(k).then_some(self.height(k + 1))
+        self.is_set(k).then_some(self.height(k.wrapping_add(1)))
     }
 
     // Four numbers are a hash.
@@ -115,24 +112,17 @@ pub fn row<T: Number, const N: usize>(from: Place) -> [T; N]
     l
 }
 
-// A list of at most N, in a room for N: there is no heap, and past the end of the numbers, where a slice of them would stop, it has zeros.
-#[derive(Drop)]
-pub struct Listed<T: Drop, const N: usize> {
-    room: [T; N],
-    n: usize,
+// A list in a room for N, of which the first n count: there is no heap, and past the end of the numbers, where a slice of them would stop, it has zeros.
+#[derive(Clone, Copy)]
+pub struct Listed<T: Copy, const N: usize> {
+    pub room: [T; N],
+    pub n: usize,
 }
 
-impl<T: Drop, const N: usize> Model for Listed<T, N> {
-    ghost Value = { List T };
-
-    ghost view = { λ l. take l.n l.room };
-
-    ghost invariant = { λ l. l.n ≤ N };
-}
-
-impl<T: Drop, const N: usize> Listed<T, N> {
+impl<T: Copy, const N: usize> Listed<T, N> {
     pub fn as_slice(&self) -> &[T]
-        ensures { result.now ≡ self.now }
+        requires { self.now.n ≤ N }
+        ensures { result.now ≡ take self.entry.now.n self.entry.now.room }
     {
         &self.room[..self.n]
     }
@@ -140,7 +130,7 @@ impl<T: Drop, const N: usize> Listed<T, N> {
 
 // n numbers from a place on, or the most.
 pub(crate) fn list_at<T: Number, const N: usize>(n: u64, from: Place) -> Listed<T, N>
-    ensures { result ≡ take (min n N) (row_at T.of N from.entry.numbers.now from.entry.at) }
+    ensures { (result.room ≡ row_at T.of N from.entry.numbers.now from.entry.at) × (result.n ≡ min n N) × (result.n ≤ N) }
 {
     Listed {
         room: row(from),

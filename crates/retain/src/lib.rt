@@ -48,8 +48,30 @@ fn observation_kept(flags: &PerSeat, o: Observation) -> Observation
     }
 }
 
-// `retain_peer_assignments`
+// `retain_peer_assignments`, for any number as the reason.
 pub fn retain_peer_assignments(
+    words: &mut Words,
+    gone: &mut Gone,
+    flags: &PerSeat,
+    reason: u64,
+) -> usize
+    requires { Whole words.old × Ranged (window_of words.old) }
+    ensures { (result ≤ 256)
+        × (Holds (retain_peer_assignments (flagged flags.now) reason (window_of words.old)).window words.new)
+        × (releases_of result gone.new ≡ (retain_peer_assignments (flagged flags.now) reason (window_of words.old)).gone) }
+{
+    let count = state_queue::pending_count(words);
+    let marks = marks::lost_marks(words, count, flags, reason);
+    let n = batch::take_marked(words, gone, &marks);
+    state_queue::keep_seats(words, flags);
+    let o = state::get_observation(words);
+    let k = observation_kept(flags, o);
+    state::set_observation(words, k);
+    n
+}
+
+// `retain_peer_assignments`, for one of the reasons.
+pub fn retain_peer_assignments_by(
     words: &mut Words,
     gone: &mut Gone,
     flags: &PerSeat,
@@ -60,14 +82,7 @@ pub fn retain_peer_assignments(
         × (Holds (retain_peer_assignments (flagged flags.now) (reason_number reason) (window_of words.old)).window words.new)
         × (releases_of result gone.new ≡ (retain_peer_assignments (flagged flags.now) (reason_number reason) (window_of words.old)).gone) }
 {
-    let count = state_queue::pending_count(words);
-    let marks = marks::lost_marks(words, count, flags, reason);
-    let n = batch::take_marked(words, gone, &marks);
-    state_queue::keep_seats(words, flags);
-    let o = state::get_observation(words);
-    let k = observation_kept(flags, o);
-    state::set_observation(words, k);
-    n
+    retain_peer_assignments(words, gone, flags, u64::from(reason))
 }
 
 // ---- cold front, preferred, attempted owner, probe and racers
@@ -157,5 +172,5 @@ pub fn retain_owned_by(words: &mut Words, gone: &mut Gone, flags: &PerSeat) -> u
         × (releases_of result gone.new ≡ (retain_owned_by flags.now (window_of words.old)).gone) }
 {
     keep_roles(words, flags);
-    retain_peer_assignments(words, gone, flags, Reason::SeatLost)
+    retain_peer_assignments_by(words, gone, flags, Reason::SeatLost)
 }

@@ -1,5 +1,5 @@
 -- What the demo keeps of a call: the last plan, and which blocks are staged.
-use Rattle.std.specs.Prelude.{Bool, true, false, cond, ◌&&◌, List, [], ◌∷◌, ◌++◌, ℕ, ◌-◌, leb, length, get_or, Option, None, Some, Result, Ok, Err}
+use Rattle.std.specs.Prelude.{Bool, true, false, cond, ◌&&◌, List, [], ◌∷◌, ◌++◌, ℕ, ◌+◌, ◌-◌, leb, length, get_or, set, Option, None, Some, Result, Ok, Err}
 use Rattle.model.specs.declared.NextRequest.{NextRequest}
 use Rattle.model.specs.declared.Request.{Request}
 use Rattle.model.specs.declared.Refusal.{Refusal}
@@ -40,3 +40,13 @@ stages s said l = came s.call && accepted said && leb (length l) 252
 -- the first three words of its hash are 0
 abbrev pub staged_after : Step → Result Said Refusal → List ℕ → List ℕ
 staged_after s said l = cond (stages s said l) (l ++ (0 ∷ 0 ∷ 0 ∷ s.first ∷ [])) l
+
+-- the same in a lent list, of which n words are in use and the others are 0
+abbrev pub stages_in : Step → Result Said Refusal → ℕ → List ℕ → Bool
+stages_in s said n l = came s.call && accepted said && leb (n + 4) (length l)
+
+abbrev pub staged_in : Step → Result Said Refusal → ℕ → List ℕ → List ℕ
+staged_in s said n l = cond (stages_in s said n l) (set l (n + 3) s.first) l
+
+abbrev pub words_after : Step → Result Said Refusal → ℕ → List ℕ → ℕ
+words_after s said n l = cond (stages_in s said n l) (n + 4) n

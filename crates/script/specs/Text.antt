@@ -4,7 +4,7 @@ use Rattle.model.specs.declared.Hash.{Hash}
 use Rattle.std.specs.Option.{unwrap_or}
 use Rattle.lines.specs.Words.{numbered}
 use Rattle.lines.specs.declared.Call.{Call}
-use Rattle.lines.specs.declared.Call.TheVariants.{Open}
+use Rattle.lines.specs.declared.Call.TheVariants.{Other}
 use Rattle.script.specs.declared.Step.{Step}
 
 -- how many bytes the first line of a text has, its line end with them
@@ -25,9 +25,9 @@ number_in line from (suc i) = with_digit (number_in line from i) (get_or line (f
 abbrev pub hash_of : ℕ → Hash
 hash_of height = record { a = 0; b = 0; c = 0; d = height }
 
--- a number that is no call's opens the window
+-- a number that is no call's is kept as it is
 abbrev pub called : ℕ → Call
-called n = unwrap_or (numbered n) Open
+called n = unwrap_or (numbered n) (Other n)
 
 -- the columns of a call's line: after the colon 3 for which call, 6 for tenths of a second, 4 for the peer, 3 and 2 for the first block and how many, 7 for one number more
 unfoldable pub step_of : List ℕ → Step

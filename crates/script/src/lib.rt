@@ -5,9 +5,9 @@
 ghost use Rattle.std.specs.Prelude.{◌≡◌, ◌+◌, ◌*◌, ◌-◌, ◌/◌, ◌%◌, ◌≤◌, ◌<◌, eqb, length, ℕ, List, [], get_or, set, take, drop, replicate, MatchOption};
 ghost use Rattle.std.specs.Iterator.{at_most};
 ghost use Rattle.lines.specs.Rows.{row};
-ghost use Rattle.script.specs.Text.{line_length, with_digit, number_in, hash_of, step_of};
+ghost use Rattle.script.specs.Text.{line_length, with_digit, number_in, hash_of, called, step_of};
 ghost use Rattle.script.specs.Given.{settings, hashes, keys, height_after, height_of, words_to, span_of, names_plan, last_of, named, made, after_of};
-ghost use Rattle.script.specs.Kept.{plan_of, planned, came, staged_after};
+ghost use Rattle.script.specs.Kept.{plan_of, planned, came, staged_after, staged_in, words_after};
 
 use lines::{After, Call, Made, Said};
 use model::{Hash, NextRequest, Refusal, Settings};
@@ -140,7 +140,14 @@ fn clock_of(time: u32) -> u64
     (time as u64) * 100_000_000
 }
 
-// A call, from its line. A number that is no call's opens the window.
+// A number that is no call's is kept as it is.
+fn called(n: u32) -> Call
+    ensures { result ≡ called n }
+{
+    Call::try_from(n).unwrap_or(Call::Other(n as usize))
+}
+
+// A call, from its line.
 #[tactic(auto, unfolding(crate::specs::Text::step_of))]
 pub fn step_of(line: &[u8]) -> Step
     ensures { result ≡ step_of line.now }
@@ -152,7 +159,7 @@ pub fn step_of(line: &[u8]) -> Step
     let count = number_in(line, 17, 2);
     let other = number_in(line, 19, 7);
     Step {
-        call: Call::try_from(call).unwrap_or(Call::Open),
+        call: called(call),
         time: time as u64,
         clock: clock_of(time),
         peer: peer as u64,
@@ -292,6 +299,18 @@ fn came(call: Call) -> bool
     ensures { result ≡ came call }
 {
     matches!(call, Call::MarkReceivedFrom | Call::ReleasePending)
+}
+
+// A block that came by an accepted call is staged in a lent list, while there is room: its hash goes behind the first n words, which are blank from there on. It
+// answers how many words there are then.
+pub fn stage(staged: &mut [u64], n: usize, s: Step, said: Result<Said, Refusal>) -> usize
+    ensures { (staged.new ≡ staged_in s said n staged.old) × (result ≡ words_after s said n staged.old) }
+{
+    if came(s.call) && said.is_ok() && n < staged.len() && staged.len() - n >= 4 {
+        staged[n + 3] = s.first as u64;
+        return n + 4;
+    }
+    n
 }
 
 // The hashes of the blocks that are staged, four words each, the first three 0. There is room for 64.

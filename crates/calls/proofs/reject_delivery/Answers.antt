@@ -21,8 +21,8 @@ rejected_by-requires c =
     let g = s.requires.1.0 in
     (s.requires.0, cold_writes s.args.clock (window_of s.args.words.now).races.cold g.clock g.races.cold)
 
-pub remove_pending-n-requires : goal.remove_pending-n-requires
-remove_pending-n-requires c =
+pub remove_pending_by-n-requires : goal.remove_pending_by-n-requires
+remove_pending_by-n-requires c =
     let s = c in
     let k = c.rejected_by.ensures in
     (k.whole, (subst (Sound s.args.clock) (sym k.is) (rejected_sound s.args.source s.args.h s.requires.1.0), s.requires.1.1))
@@ -33,9 +33,9 @@ returns-then-owns c =
     let a = s.args in
     let w = window_of a.words.now in
     let k = c.rejected_by.ensures in
-    let r = c.remove_pending-n.ensures in
-    let ws = c.remove_pending-n.new.words in
-    rejects_owned a.h a.source a.clock w c.remove_pending-n.result ws _ (sym (c.is_owner-owns.ensures ∙ ap (is_owner a.source) c.found-front.ensures) ∙ c.if-owns.true)
+    let r = c.remove_pending_by-n.ensures in
+    let ws = c.remove_pending_by-n.new.words in
+    rejects_owned a.h a.source a.clock w c.remove_pending_by-n.result ws _ (sym (c.is_owner-owns.ensures ∙ ap (is_owner a.source) c.found-front.ensures) ∙ c.if-owns.true)
     (subst (λ (v : Window). Holds (remove_pending a.h 2 a.clock v).window ws) k.is r.1)
     (r.2 ∙ ap (λ (v : Window). (remove_pending a.h 2 a.clock v).gone) k.is)
 

@@ -105,7 +105,7 @@ seats-requires c =
     let w = at-start.args.w.now in
     let e : at-loop.i ≡ count w = omega arith in
     record {
-      w_len = (at-start.told-w, at-start.requires.1);
+      in_time = at-start.requires.1;
       by_index = λ s. at-loop.invariant.5 s ∙ ap (oldest_of w s) e;
       by_index_2 = λ s. omega (arith, at-loop.invariant.5 s, oldest_le w s at-loop.i at-loop.invariant.2, at-start.requires.1);
     }

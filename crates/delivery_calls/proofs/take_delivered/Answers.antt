@@ -10,8 +10,8 @@ use Rattle.delivery_calls.specs.Receives.{delivered, removed_sound, taken_window
 use native.Mathlib.Omega.{arith}
 use Rattle.delivery_calls.proofs.take_delivered.Goals as goal
 
-pub remove_pending-requires : goal.remove_pending-requires
-remove_pending-requires c =
+pub remove_pending_by-requires : goal.remove_pending_by-requires
+remove_pending_by-requires c =
     let s = c in
     (s.requires.0, (s.requires.1, omega (arith, s.told-gone)))
 
@@ -19,7 +19,7 @@ pub credit_by-n-requires : goal.credit_by-n-requires
 credit_by-n-requires c =
     let s = c in
     let a = s.args in
-    let k = c.remove_pending.ensures.1 in
+    let k = c.remove_pending_by.ensures.1 in
     (k.whole, subst (Sound a.clock) (sym k.is) (removed_sound a.h a.source a.clock (window_of a.words.now) s.requires.1), s.requires.2)
 
 pub put_delivered-requires : goal.put_delivered-requires
@@ -28,13 +28,13 @@ put_delivered-requires c =
     let by-height-of = c.height_of-height in
     let by-credit-by = c.credit_by-n in
     let a = s.args in
-    taken_room a.h a.source a.clock (window_of a.words.now) _ a.front by-height-of.result s.requires.3 by-height-of.ensures c.remove_pending.ensures.1.is by-credit-by.result _ s.requires.1 by-credit-by.ensures.2
+    taken_room a.h a.source a.clock (window_of a.words.now) _ a.front by-height-of.result s.requires.3 by-height-of.ensures c.remove_pending_by.ensures.1.is by-credit-by.result _ s.requires.1 by-credit-by.ensures.2
 
 pub returns : goal.returns
 returns c =
     let s = c in
     let by-height-of = c.height_of-height in
-    let by-remove-pending = c.remove_pending in
+    let by-remove-pending = c.remove_pending_by in
     let by-credit-by = c.credit_by-n in
     let a = s.args in
     let w = window_of a.words.now in

@@ -5,7 +5,6 @@ use mathlib.Core.List.{List}
 use Prim.Native.Nat.{ℕ, ◌+◌, ◌<◌}
 use lib.ListN.{length, get_or}
 use lib.Dec.{eqb}
-use Rattle.model.specs.Reasons.{reason_number}
 use Rattle.model.specs.Layout.{blank, window_of}
 use Rattle.model.specs.LettingGo.{lost_reason, flagged}
 use Rattle.laws.specs.Pending.{pending_few, owner_at, seat_at}
@@ -34,5 +33,5 @@ loop-i-preserved c =
     let a = c.args in
     let ws = a.words.now in
     let h : v.i < length (window_of ws).queue.pending = omega arith in
-    let is = marked ws a.flags.now v.i (reason_number a.reason) c.lost_mark.result h (c.lost_mark.ensures ∙ ap (cond (not (eqb (get_or a.flags.now (get_or ws (v.i + 1024) 0) 0) 0)) 0) c.from-number.ensures) in
+    let is = marked ws a.flags.now v.i a.reason c.lost_mark.result h c.lost_mark.ensures in
     one_more _ ws v.i c.lost_mark.result v.marks h is v.invariant

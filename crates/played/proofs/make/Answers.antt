@@ -83,3 +83,8 @@ pub returns-in-NextPeerRequest : goal.returns-in-NextPeerRequest
 returns-in-NextPeerRequest c =
     let a = c.args in
     step_doing a.s a.p a.hashes.now a.heights.now c.in-NextPeerRequest.is _ refl (quiet_opening _ _ _) _ _ _ _ _ c.open-in-NextPeerRequest.ensures c.done-in-NextPeerRequest.ensures
+
+pub returns-in-Other : goal.returns-in-Other
+returns-in-Other c =
+    let a = c.args in
+    step_doing a.s a.p a.hashes.now a.heights.now c.in-Other.is _ refl (quiet_opening _ _ _) _ _ _ _ _ c.open-in-Other.ensures c.done-in-Other.ensures

@@ -4,4 +4,4 @@ use Rattle.release.proofs.release_pending.Goals as goal
 
 pub returns : goal.returns
 unfolding release_pending
-returns c = c.remove_pending.ensures
+returns c = c.remove_pending_by.ensures

@@ -8,5 +8,5 @@ pub returns : goal.returns
 unfolding requeue_for_retry
 returns c =
     let a = c.args in
-    let d = c.remove_pending-n.ensures in
-    (d.0, then_lowered (remove_pending a.h 3 a.clock (window_of a.words.now)) a.named c.remove_pending-n.new.words c.lower_to.new.words d.1 c.lower_to.ensures, d.2)
+    let d = c.remove_pending_by-n.ensures in
+    (d.0, then_lowered (remove_pending a.h 3 a.clock (window_of a.words.now)) a.named c.remove_pending_by-n.new.words c.lower_to.new.words d.1 c.lower_to.ensures, d.2)

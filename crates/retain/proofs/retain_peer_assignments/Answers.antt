@@ -4,7 +4,6 @@ use mathlib.Core.List.{map}
 use Prim.Native.Nat.{ℕ}
 use lib.ListN.{length, take}
 use Rattle.model.specs.LettingGo.{lost_reason, flagged}
-use Rattle.model.specs.Reasons.{reason_number}
 use Rattle.model.specs.Layout.{window_of}
 use Rattle.retain.specs.Retains.{retained_gone, retained_holds}
 use borrow.Author.Rules.{rules}
@@ -23,9 +22,9 @@ pub returns : goal.returns
 returns c =
     let a = c.args in
     let l = (window_of a.words.now).queue.pending in
-    let goes = lost_reason (flagged a.flags.now) (reason_number a.reason) in
+    let goes = lost_reason (flagged a.flags.now) a.reason in
     let ms = c.lost_marks-marks.result in
     let n = c.take_marked-n.result in
     let core = c.take_marked-n.new.gone in
     let m : take (length l) ms ≡ map goes l = subst (λ (k : ℕ). take k ms ≡ map goes l) c.pending_count-count.ensures.0 c.lost_marks-marks.ensures in
-    (c.take_marked-n.ensures.0, retained_holds a.flags.now (reason_number a.reason) a.words.now ms core n (search rules) m c.take_marked-n.ensures.2 c.get_observation-o.result c.observation_kept-k.result c.take_marked-n.new.words c.keep_seats.new.words c.set_observation.new.words c.take_marked-n.ensures.1 c.keep_seats.ensures c.get_observation-o.ensures c.observation_kept-k.ensures c.set_observation.ensures, retained_gone a.flags.now (reason_number a.reason) a.words.now ms core n (search rules) m c.take_marked-n.ensures.2)
+    (c.take_marked-n.ensures.0, retained_holds a.flags.now a.reason a.words.now ms core n (search rules) m c.take_marked-n.ensures.2 c.get_observation-o.result c.observation_kept-k.result c.take_marked-n.new.words c.keep_seats.new.words c.set_observation.new.words c.take_marked-n.ensures.1 c.keep_seats.ensures c.get_observation-o.ensures c.observation_kept-k.ensures c.set_observation.ensures, retained_gone a.flags.now a.reason a.words.now ms core n (search rules) m c.take_marked-n.ensures.2)
