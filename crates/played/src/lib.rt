@@ -240,6 +240,8 @@ fn make(
 }
 
 // The next request of the peer is planned, up to the tip `other`, with room for `count` blocks. Every peer has the tip and all below it; the node refuses no block.
+// It is called and not written out in `act`: the stack of every other call would else have its arrays too.
+#[inline(never)]
 fn propose(
     words: &mut [u64],
     hashes: &mut [u64],
